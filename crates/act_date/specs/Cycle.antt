@@ -1,0 +1,39 @@
+-- Cycles, counted from an anchor. ACTUS cycles; the range is this profile's own.
+use Rattle.std.specs.Prelude.{ℕ, ◌+◌, ◌-◌, ◌*◌, ◌/◌, ◌%◌, min, nat_le, if◌then◌else◌, ℤ, pos, ◌+ℤ◌, Option, Some, None}
+use Rattle.act_date.specs.declared.cycle.Cycle.{Cycle}
+use Rattle.act_date.specs.declared.cycle.Unit.{Unit}
+use Rattle.act_date.specs.declared.cycle.Unit.TheVariants as unit
+use Rattle.act_date.specs.Civil.{Civil, day_in_range, civil_of, day_number, month_length}
+
+-- what a cycle's units come to: days, or months
+pub data Step : Type 0 where
+  days : ℕ → Step
+  months : ℕ → Step
+
+-- n units
+abbrev pub step_of : Unit → ℕ → Step
+step_of unit.D n = days n
+step_of unit.W n = days (7 * n)
+step_of unit.M n = months n
+step_of unit.Q n = months (3 * n)
+step_of unit.H n = months (6 * n)
+step_of unit.Y n = months (12 * n)
+
+-- the date n months later: the same day of the month, or the last day of a shorter month
+abbrev pub months_later : Civil → ℕ → Civil
+months_later date n =
+    let month = 12 * date.year + (date.month - 1) + n in
+    record { year = month / 12; month = month % 12 + 1; day = min date.day (month_length (month / 12) (month % 12 + 1)) }
+
+-- the day number of a date, where its year is at most 2299
+abbrev pub day_number_in_range : Civil → Option ℤ
+day_number_in_range date = if nat_le date.year 2299 then Some (day_number date) else None
+
+-- the day after a step, where it is a day of the engine
+abbrev pub day_after : ℤ → Step → Option ℤ
+day_after day (days n) = day_in_range (day +ℤ pos n)
+day_after day (months n) = day_number_in_range (months_later (civil_of day) n)
+
+-- the day that k cycles lead to, counted from the day
+abbrev pub plus_cycles : ℤ → Cycle → ℕ → Option ℤ
+plus_cycles day cycle k = day_after day (step_of cycle.unit (cycle.count * k))

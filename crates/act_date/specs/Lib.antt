@@ -1,0 +1,6 @@
+pub mod Civil
+pub mod Cycle
+pub mod DayCount
+pub mod Fraction
+pub mod JiffDate
+pub mod Text

@@ -1,0 +1,14 @@
+-- Counts of faults. They never fall, and stop at the last value of a counter.
+use Rattle.std.specs.Prelude.{◌≡◌, ℕ, ◌+◌, ◌<◌, ◌⊎◌, min}
+
+-- the last value of a counter: 2^64 - 1
+abbrev pub last_count : ℕ
+last_count = 18446744073709551615
+
+-- a counter goes up by one, as far as its last value
+abbrev pub next_count : ℕ → ℕ
+next_count n = min (n + 1) last_count
+
+-- the count is greater than before, or stands at its last value
+abbrev pub Rose : ℕ → ℕ → Type 0
+Rose before now = (before < now) ⊎ (now ≡ last_count)

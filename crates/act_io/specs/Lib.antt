@@ -1,0 +1,4 @@
+pub mod Faults
+pub mod Fetch
+pub mod Memory
+pub mod Put

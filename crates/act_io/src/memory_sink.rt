@@ -1,0 +1,82 @@
+//! A sink in memory.
+ghost use Rattle.std.specs.Prelude.{◌≡◌, ◌≢◌, ◌≤◌, [], Some, Ok, Err, length};
+ghost use Rattle.act_io.specs.declared.sink.PutFault.TheVariants.{Failed, NoMemory};
+ghost use Rattle.act_io.specs.Faults.{Rose};
+ghost use Rattle.act_io.specs.Memory.{put_answer, sink_after};
+ghost use Rattle.act_io.specs.Put.{Puts};
+
+use crate::{PutFault, Sink};
+use std::alloc::Global;
+use std::marker::Model;
+
+/// Keeps what is written. The calls whose numbers, from 1, are listed fail; a call with an empty piece, or
+/// that memory ran out for, has no number.
+#[derive(Drop)]
+pub struct MemSink {
+    written: Vec<u8>,
+    fails: Vec<u64>,
+    calls: u64,
+    faults: u64,
+}
+
+impl Model for MemSink {
+    ghost use Rattle.act_io.specs.Memory.{SinkInMemory};
+
+    ghost Value = { SinkInMemory };
+
+    ghost view = { λ m. record { written = m.written.items; fails = m.fails.items; calls = m.calls; faults = m.faults } };
+}
+
+impl MemSink {
+    /// A sink with nothing written, of which the calls of these numbers are to fail.
+    pub fn new(alloc: Global, fails: Vec<u64>) -> MemSink
+        ensures written { result.written ≡ [] }
+        ensures fails { result.fails ≡ fails.items }
+        ensures calls { result.calls ≡ 0 }
+        ensures faults { result.faults ≡ 0 }
+    {
+        MemSink {
+            written: Vec::new(alloc),
+            fails,
+            calls: 0,
+            faults: 0,
+        }
+    }
+
+    /// What was written.
+    pub fn bytes(&self) -> &[u8]
+        ensures { result.now ≡ self.now.written }
+    {
+        self.written.as_slice()
+    }
+}
+
+impl Sink for MemSink {
+    ghost written = { λ m. Some m.written };
+
+    ghost faults = { λ m. m.faults };
+
+    fn put(&mut self, piece: &[u8]) -> Result<usize, PutFault>
+        ensures took { Puts piece.now (Some self.old.written) (Some self.new.written) result }
+        ensures empty { length piece.now ≡ 0 → result ≡ Ok 0 }
+        ensures failed { result ≡ Err Failed → Rose self.old.faults self.new.faults }
+        ensures count { self.old.faults ≤ self.new.faults }
+        ensures answer { result ≢ Err NoMemory → result ≡ put_answer self.old piece.now }
+        ensures after { self.new ≡ sink_after result self.old piece.now }
+    {
+        if piece.is_empty() {
+            return Ok(0);
+        }
+        let call = self.calls.saturating_add(1);
+        if self.fails.contains(&call) {
+            self.calls = call;
+            self.faults = self.faults.saturating_add(1);
+            return Err(PutFault::Failed);
+        }
+        if self.written.extend_from_slice(piece).is_err() {
+            return Err(PutFault::NoMemory);
+        }
+        self.calls = call;
+        Ok(piece.len())
+    }
+}

@@ -1,0 +1,9 @@
+pub mod DigitValues
+pub mod Forms
+pub mod Halves
+pub mod Limits
+pub mod Nearest
+pub mod Padded
+pub mod Products
+pub mod Reading
+pub mod Scaling

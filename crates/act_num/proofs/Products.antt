@@ -1,0 +1,22 @@
+-- Products and ratios, step by step.
+use Rattle.std.proofs.Common.{◌≡◌, ℕ, ◌*◌, ℤ, ◌*ℤ◌, Some, option_map, option_and_then, pos, negsuc, neg_ℤ, ◌<ℤ◌, unsigned_abs, refl, ap, ap₂, ◌∙◌, arith}
+use Rattle.std.proofs.lemmas.Int.{ints}
+use Rattle.act_num.specs.Number.{number_in_range, rnd, one, mul_frac_of, nearest_quotient, ratio_of}
+
+-- both products are in range, and the second one is rounded
+pub mul_frac_of_steps : (a b num : ℤ) (den : ℕ) (p q r : ℤ) → Some p ≡ number_in_range (a *ℤ b) → Some q ≡ number_in_range (p *ℤ num) → r ≡ rnd q (den * one) → Some r ≡ mul_frac_of a b num den
+mul_frac_of_steps a b num den p q r first second rounded =
+    ap Some rounded
+    ∙ ap (option_map (λ (x : ℤ). rnd x (den * one))) (second ∙ ap (option_and_then (λ (x : ℤ). number_in_range (x *ℤ num))) first)
+
+nearest_quotient_below : (p b : ℤ) → b <ℤ pos 0 → Some (rnd (neg_ℤ p) (unsigned_abs b)) ≡ nearest_quotient p b
+nearest_quotient_below p (pos n) h = absurd (omega (arith, ints))
+nearest_quotient_below p (negsuc n) h = refl
+
+-- by a divisor below 0: both numbers change their sign
+pub ratio_of_below : (a b p m n r : ℤ) → Some p ≡ number_in_range (a *ℤ pos one) → b <ℤ pos 0 → m ≡ neg_ℤ p → n ≡ neg_ℤ b → r ≡ rnd m (unsigned_abs n) → Some r ≡ ratio_of a b
+ratio_of_below a b p m n r first h e f rounded =
+    let same : unsigned_abs n ≡ unsigned_abs b = omega (arith, ints) in
+    ap Some (rounded ∙ ap₂ rnd e same)
+    ∙ nearest_quotient_below p b h
+    ∙ ap (option_and_then (λ (x : ℤ). nearest_quotient x b)) first

@@ -1,0 +1,10 @@
+use Rattle.std.proofs.Common.{rules, tests, ◌==◌, ◌∙◌}
+use Rattle.std.proofs.lemmas.Iterator.{YieldsList-from_slice}
+use Rattle.std.proofs.lemmas.Iterator.Search.{all_from_yields_List}
+use Rattle.act_num.proofs.Halves.{zeros_value}
+use Rattle.act_num.proofs.decimal.are_zeros.Goals as goal
+
+pub returns : goal.returns
+returns c =
+    all_from_yields_List (λ d. d == 48) _ _ _ c.all.ensures.ran (YieldsList-from_slice c.args.digits.now cc) (λ x b q k. search (rules, tests))
+    ∙ zeros_value c.args.digits.now c.requires

@@ -1,0 +1,186 @@
+//! Amounts, rates, prices and scaling factors.
+ghost use Rattle.std.specs.Prelude.{◌≡◌, ◌≤◌, ◌*◌, ℤ, pos, ◌+ℤ◌, ◌-ℤ◌, ◌*ℤ◌, ◌<ℤ◌, ◌≤ℤ◌, neg_ℤ, unsigned_abs, IfSome};
+ghost use Rattle.std.specs.Int.{int_max, int_min};
+ghost use Rattle.act_num.specs.Number.{InRange, largest, number_in_range, rnd, add_of, sub_of, mul_of, mul_frac_of, ratio_of, clip_of};
+
+use crate::rounding::rnd;
+use std::cmp::Ordering;
+use std::marker::Model;
+
+/// The units of the number 1.
+pub(crate) const ONE_IN_UNITS: i128 = 1_000_000_000;
+
+/// The most units of a number.
+pub(crate) const LARGEST: u128 = (1 << 127) - 1;
+
+/// A number in whole units of 10^-9, from `-(2^127 - 1)` to `2^127 - 1` of them.
+#[derive(Clone, Copy, Debug, PartialEq, Eq, PartialOrd, Ord)]
+pub struct Fixed {
+    units: i128,
+}
+
+impl Model for Fixed {
+    ghost use Rattle.std.specs.Prelude.{ℤ};
+    ghost use Rattle.act_num.specs.Number.{InRange};
+
+    ghost Value = { ℤ };
+
+    ghost view = { λ f. f.units };
+
+    ghost invariant = { λ f. InRange f.units };
+
+    ghost inverse = { λ z. record { units = z } };
+}
+
+impl Fixed {
+    /// The number 0.
+    pub const ZERO: Fixed = Fixed { units: 0 };
+
+    /// The number 1.
+    pub const ONE: Fixed = Fixed {
+        units: ONE_IN_UNITS,
+    };
+
+    /// The number of so many units of 10^-9, or None where that is out of range.
+    pub fn from_units(units: i128) -> Option<Fixed>
+        ensures { result ≡ number_in_range units }
+    {
+        if units == i128::MIN {
+            None
+        } else {
+            Some(Fixed { units })
+        }
+    }
+
+    /// How many units of 10^-9 it has.
+    pub fn units(self) -> i128
+        ensures value { result ≡ self }
+        ensures in_range { InRange result }
+    {
+        self.units
+    }
+
+    /// The sum, or None where it is out of range.
+    pub fn add(self, b: Fixed) -> Option<Fixed>
+        ensures { result ≡ add_of self b }
+    {
+        Fixed::from_units(self.units.checked_add(b.units)?)
+    }
+
+    /// The difference, or None where it is out of range.
+    pub fn sub(self, b: Fixed) -> Option<Fixed>
+        ensures { result ≡ sub_of self b }
+    {
+        Fixed::from_units(self.units.checked_sub(b.units)?)
+    }
+
+    /// The product, rounded once, or None where the product of the units is out of range.
+    pub fn mul(self, b: Fixed) -> Option<Fixed>
+        ensures { result ≡ mul_of self b }
+    {
+        Some(rounded(product(self.units, b.units)?, ONE_IN_UNITS))
+    }
+
+    /// The product with the fraction `num/den`, rounded once, or None where a product of the units, from
+    /// left to right, is out of range.
+    pub fn mul_frac(self, b: Fixed, num: i64, den: i64) -> Option<Fixed>
+        requires num_in { pos 0 ≤ℤ num }
+        requires den_above { pos 1 ≤ℤ den }
+        requires den_in { den ≤ℤ pos 133_590 }
+        ensures { result ≡ mul_frac_of self b num (unsigned_abs den) }
+    {
+        let product = product(product(self.units, b.units)?, i128::from(num))?;
+        Some(rounded(product, i128::from(den) * ONE_IN_UNITS))
+    }
+
+    /// The ratio, rounded once, or None where `b` is 0 or this number times 10^9 is out of range.
+    pub fn ratio(self, b: Fixed) -> Option<Fixed>
+        ensures { result ≡ ratio_of self b }
+    {
+        let dividend = product(self.units, ONE_IN_UNITS)?;
+        match b.units.cmp(&0) {
+            Ordering::Less => Some(rounded(-dividend, -b.units)),
+            Ordering::Equal => None,
+            Ordering::Greater => Some(rounded(dividend, b.units)),
+        }
+    }
+
+    /// The lesser of the two.
+    pub fn min(self, b: Fixed) -> Fixed
+        ensures { result ≡ int_min self b }
+    {
+        if b.units < self.units { b } else { self }
+    }
+
+    /// The greater of the two.
+    pub fn max(self, b: Fixed) -> Fixed
+        ensures { result ≡ int_max self b }
+    {
+        if b.units < self.units { self } else { b }
+    }
+
+    /// The number, raised to the lower bound and then lowered to the upper one. A bound that isn't given is
+    /// passed over.
+    pub fn clip(self, lo: Option<Fixed>, hi: Option<Fixed>) -> Fixed
+        ensures { result ≡ clip_of self lo hi }
+    {
+        let raised = match lo {
+            Some(lo) => self.max(lo),
+            None => self,
+        };
+        match hi {
+            Some(hi) => raised.min(hi),
+            None => raised,
+        }
+    }
+
+    /// The number with the other sign.
+    pub fn neg(self) -> Fixed
+        ensures { result ≡ neg_ℤ self }
+    {
+        Fixed { units: -self.units }
+    }
+
+    /// The number without its sign.
+    pub fn abs(self) -> Fixed
+        ensures { result ≡ pos (unsigned_abs self) }
+    {
+        Fixed {
+            units: self.units.abs(),
+        }
+    }
+
+    /// The number of so many units.
+    pub(crate) fn from_magnitude(units: u128) -> Fixed
+        requires { units ≤ largest }
+        ensures { result ≡ pos units }
+    {
+        Fixed {
+            units: units as i128,
+        }
+    }
+}
+
+/// The number of units that is nearest to the quotient.
+fn rounded(units: i128, divisor: i128) -> Fixed
+    requires divisor { pos 0 <ℤ divisor }
+    requires in_range { InRange units }
+    ensures { result ≡ rnd units (unsigned_abs divisor) }
+{
+    Fixed {
+        units: rnd(units, divisor),
+    }
+}
+
+/// The product, or None where it is out of range.
+fn product(a: i128, b: i128) -> Option<i128>
+    ensures value { result ≡ number_in_range (a *ℤ b) }
+    ensures in_range { IfSome result InRange }
+{
+    let product = a.checked_mul(b)?;
+    if product == i128::MIN {
+        None
+    } else {
+        Some(product)
+    }
+}

@@ -1,0 +1,11 @@
+//! Worked rows as tests, a module for each crate that they are of.
+#![tactic(auto)]
+
+#[cfg(test)]
+mod date;
+#[cfg(test)]
+mod io;
+#[cfg(test)]
+mod num;
+#[cfg(test)]
+mod top;
