@@ -1,5 +1,5 @@
 -- The quoting pass: bare numbers of a JSON text are put in quotes, so that they are read as texts. This profile's own.
-use Rattle.std.specs.Prelude.{ℕ, ◌+◌, ◌&&◌, ◌||◌, ◌==◌, nat_le, if◌then◌else◌, Bool, List, [], ◌∷◌, ◌++◌}
+use Rattle.std.specs.Prelude.{ℕ, ◌&&◌, ◌||◌, ◌==◌, nat_le, if◌then◌else◌, Bool, List, [], ◌∷◌, ◌++◌}
 
 -- a byte that numbers start with: a digit or a minus sign
 unfoldable pub starts_number : ℕ → Bool
@@ -59,9 +59,3 @@ quoted text = quoted_from outside text
 abbrev pub quoted_piece : List ℕ → List ℕ
 quoted_piece [] = []
 quoted_piece (b ∷ bs) = if starts_number b then 34 ∷ (b ∷ bs) ++ 34 ∷ [] else b ∷ bs
-
--- how many bytes of a text that begins in a string stand in it, its closing quote included
-unfoldable pub string_length : Place → List ℕ → ℕ
-string_length place [] = 0
-string_length string (b ∷ bs) = if b == 34 then 1 else 1 + string_length (place_after string b) bs
-string_length place (b ∷ bs) = 1 + string_length string bs

@@ -58,6 +58,9 @@ const YEARLY: Cycle = Cycle {
     stub: Stub::Short,
 };
 
+/// The years that days have, from 1900 to 2299: so many yearly steps from any day lead out of them.
+const YEARS: u32 = 400;
+
 impl Loan {
     /// The events in order.
     pub fn events(&self, alloc: Global) -> Result<Vec<Event>, AllocError> {
@@ -89,7 +92,7 @@ impl Loan {
         if anchor > self.maturity {
             return Ok(dates);
         }
-        for count in 0..400 {
+        for count in 0..YEARS {
             match add_cycles(anchor, YEARLY, count) {
                 Some(date) if date < self.maturity => dates.push(date)?,
                 _ => break,

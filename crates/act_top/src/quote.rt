@@ -1,7 +1,7 @@
 //! The quoting pass: bare numbers of a JSON text are put in quotes, so that they are read as texts.
 ghost use Rattle.std.specs.Prelude.{◌≡◌, ◌<◌, ◌≤◌, ◌++◌, length, take, drop, IfOk};
 ghost use Rattle.std.specs.List.{prefix_len};
-ghost use Rattle.act_top.specs.Quoting.{is_number_byte, quoted, quoted_piece, starts_number, string, string_length};
+ghost use Rattle.act_top.specs.Quoting.{is_number_byte, quoted, quoted_from, quoted_piece, starts_number, string};
 
 use std::alloc::{AllocError, Global};
 
@@ -48,8 +48,8 @@ fn piece_len(text: &[u8]) -> usize
 /// The length of a string from behind its opening quote up to its closing one, or to the end of the text. A
 /// backslash and the byte behind it belong together.
 fn string_len(inside: &[u8]) -> usize
-    ensures length { result ≡ string_length string inside.now }
     ensures within { result ≤ length inside.now }
+    ensures piece { quoted_from string inside.now ≡ take result inside.now ++ quoted (drop result inside.now) }
 {
     let mut escaped = false;
     for (place, byte) in inside.iter().enumerate() {

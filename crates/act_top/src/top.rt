@@ -64,8 +64,19 @@ enum Refusal<'a> {
     Words,
     Read(&'a str),
     TooLong(&'a str),
-    Portfolio(PortfolioFault),
+    NotJson,
+    NotBuilt,
     NoMemory,
+}
+
+impl From<PortfolioFault> for Refusal<'_> {
+    fn from(fault: PortfolioFault) -> Self {
+        match fault {
+            PortfolioFault::NotJson => Refusal::NotJson,
+            PortfolioFault::NotBuilt => Refusal::NotBuilt,
+            PortfolioFault::NoMemory => Refusal::NoMemory,
+        }
+    }
 }
 
 /// Why a text wasn't written whole.
@@ -104,10 +115,7 @@ fn accepted<'a, F: Files>(
 ) -> Result<Option<Loan>, Refusal<'a>> {
     let name = portfolio_word(words).ok_or(Refusal::Words)?;
     match files.fetch(alloc, name, MOST_BYTES) {
-        Ok(bytes) => match portfolio::read(alloc, &bytes) {
-            Ok(loan) => Ok(loan),
-            Err(fault) => Err(Refusal::Portfolio(fault)),
-        },
+        Ok(bytes) => Ok(portfolio::read(alloc, &bytes)?),
         Err(FetchFault::Failed) => Err(Refusal::Read(name)),
         Err(FetchFault::TooLong) => Err(Refusal::TooLong(name)),
         Err(FetchFault::NoMemory) => Err(Refusal::NoMemory),
@@ -141,15 +149,15 @@ fn write_refusal<K: Sink>(
             write_named_line(alloc, out, b"long ", name)?;
             Ok(Status::TooLong)
         }
-        Refusal::Portfolio(PortfolioFault::NotJson) => {
+        Refusal::NotJson => {
             write_line(out, b"portfolio 10 0 -\n")?;
             Ok(Status::PortfolioRefused)
         }
-        Refusal::Portfolio(PortfolioFault::NotBuilt) => {
+        Refusal::NotBuilt => {
             write_line(out, b"portfolio 24 0 -\n")?;
             Ok(Status::PortfolioRefused)
         }
-        Refusal::Portfolio(PortfolioFault::NoMemory) | Refusal::NoMemory => Err(Stop::Memory),
+        Refusal::NoMemory => Err(Stop::Memory),
     }
 }
 

@@ -1,12 +1,12 @@
 use Rattle.std.proofs.Common.{ap, ◌∙◌, rules, tests}
 use Rattle.std.specs.List.{prefix_len}
-use Rattle.act_top.specs.Quoting.{is_number_byte, string, string_length}
+use Rattle.act_top.specs.Quoting.{is_number_byte}
 use Rattle.act_top.proofs.Pieces.{begins_with_number, begins_with_other, begins_with_string, rest_is}
 use Rattle.act_top.proofs.quote.piece_len.Goals as goal
 
 pub returns-then-first-eq34-clause-piece : goal.returns-then-first-eq34-clause-piece
 returns-then-first-eq34-clause-piece c =
-    begins_with_string c.args.text.now _ c.in-len1-up.len_at_least c.if-first-eq34.true (c.string_len.ensures.length ∙ ap (string_length string) (rest_is c.args.text.now))
+    begins_with_string c.args.text.now _ c.in-len1-up.len_at_least c.if-first-eq34.true (rw rest_is at c.string_len.ensures.piece)
 
 pub returns-then-is_number_byte-clause-piece : goal.returns-then-is_number_byte-clause-piece
 returns-then-is_number_byte-clause-piece c =
