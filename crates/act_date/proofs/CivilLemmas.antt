@@ -1,17 +1,17 @@
 -- Day numbers and dates name each other, and agree with jiff's.
-use Rattle.std.proofs.Common.{◌≡◌, ℕ, zero, suc, ◌+◌, ◌-◌, ◌<◌, ◌≤◌, nat_lt, nat_le, ◌&&◌, Bool, Some, None, inl, inr, true, false, if◌then◌else◌, ℤ, pos, negsuc, ◌+ℤ◌, ◌-ℤ◌, ◌≤ℤ◌, unsigned_abs, refl, sym, ap, ◌∙◌, arith}
+use Rattle.std.proofs.Common.{◌≡◌, ℕ, zero, suc, ◌+◌, ◌-◌, ◌<◌, ◌≤◌, nat_lt, nat_le, ◌&&◌, Bool, Some, None, inl, inr, true, false, if◌then◌else◌, ℤ, pos, negsuc, ◌+ℤ◌, ◌-ℤ◌, ◌≤ℤ◌, unsigned_abs, refl, sym, ap, subst, ◌∙◌, arith}
 use Rattle.std.proofs.lemmas.Bool.{cases_lt}
 use Rattle.std.proofs.lemmas.Bool.Decides.{nat_tests}
 use Rattle.std.proofs.lemmas.Int.{by_lt_z, ints}
 use Rattle.jiff_core.specs.declared.civil.date.Date.{Date}
-use Rattle.jiff_core.specs.Calendar.{days_of_years as days_from_start, days_of_months as months_of, day_count, days_from_civil, IsCivilDate}
-use Rattle.jiff_core.specs.Date.{epoch_day}
+use Rattle.jiff_core.specs.Calendar.{days_in_month, days_of_years as days_from_start, days_of_months as months_of, day_count, days_from_civil, IsCivilDate}
+use Rattle.jiff_core.specs.Date.{epoch_day, IsYmd}
 use Rattle.jiff_core.proofs.SignedLemmas.{signed_arith, one_part}
 use Rattle.jiff_core.proofs.CalendarLemmas.{days_from_civil-day_count, day_count-lt_year, day_count-later_year, day_count-next_year, day_count-day_of_year, day_of_year_bound}
 use Rattle.jiff_core.proofs.MarchLemmas.{day_count-early}
 use Rattle.jiff_core.proofs.DateLemmas.{civil}
 use Rattle.act_date.specs.JiffDate.{IsSameDate}
-use Rattle.act_date.specs.Civil.{Civil, IsCivil, IsDay, IsDateOf, day_in_range, year_length, month_length, days_of_years, days_of_months, day_number, date_from_month, date_from_year, civil_of}
+use Rattle.act_date.specs.Civil.{Civil, IsCivil, IsDay, IsDateOf, day_in_range, year_length, month_length, days_of_years, days_of_months, day_number, date_from_month, date_from_year, civil_of, month_end_of}
 
 pub if_true : {A : Type 0} (t : Bool) (a b : A) → t ≡ true → (if t then a else b) ≡ a
 if_true true a b e = refl
@@ -164,11 +164,14 @@ in_range_by_year y m d h from to =
     (λ ge. absurd (omega (arith, signed_arith))) in
     (omega (arith, signed_arith), omega (arith, signed_arith, past_day))
 
-in_range_some : (day : ℤ) → IsDay day → day_in_range day ≡ Some day
+pub in_range_some : (day : ℤ) → IsDay day → day_in_range day ≡ Some day
 in_range_some day h = grind (arith, ints)
 
-in_range_none : (day : ℤ) → ¬ (IsDay day) → day_in_range day ≡ None
+pub in_range_none : (day : ℤ) → ¬ (IsDay day) → day_in_range day ≡ None
 in_range_none day h = grind (arith, ints)
+
+pub in_years : (y : ℕ) → 1900 ≤ y → y ≤ 2299 → (nat_le 1900 y && nat_le y 2299) ≡ true
+in_years y h k = grind (arith, nat_tests)
 
 years_differ : (y : ℕ) → (nat_le 1900 y && nat_le y 2299) ≡ false → (pos 1900 ≤ℤ pos y) × (pos y ≤ℤ pos 2299) → ⊥
 years_differ y e h = grind (arith, ints, nat_tests)
@@ -209,3 +212,98 @@ civil_of-date d day e h =
     let place = rw (← year) at (day_count-place n d.month d.day d.day_in.0) in
     let same = civil_of-parts n d.month d.day day (omega (arith, signed_arith)) valid (omega (arith, signed_arith)) in
     rw same (record { year = year; month = refl; day = refl }, record { valid = valid; year_from = omega arith; year_to = omega (arith, signed_arith); number = number })
+
+-- a date of a year, behind so many days of it
+record IsInYear (year n : ℕ) (date : Civil) : Type 0 where
+  valid : IsCivil date
+  same : date.year ≡ year
+  place : days_of_months year (date.month - 1) + (date.day - 1) ≡ n
+
+in_month : (year j n : ℕ) → j ≤ 11 → n < month_length year (suc j) → IsInYear year (days_of_months year j + n) (record { year = year; month = suc j; day = n + 1 })
+in_month year j n h lt =
+    let month : suc j - 1 ≡ j = omega arith in
+    let day : n + 1 - 1 ≡ n = omega arith in
+    record {
+      valid = record { month_from = omega arith; month_to = omega arith; day_from = omega arith; day_to = omega arith };
+      same = refl;
+      place = rw (month, day) refl;
+    }
+
+-- whole months taken off lead to it
+months_found : (later j year n : ℕ) → j + later ≡ 11 → days_of_months year j + n < days_of_months year 12 → IsInYear year (days_of_months year j + n) (date_from_month later year (suc j) n)
+unfolding days_of_months date_from_month
+months_found zero j year n e lt =
+    let last : j ≡ 11 = omega arith in
+    let P : ℕ → Type 0 = λ i. days_of_months year i + n < days_of_months year 12 in
+    let within : days_of_months year 11 + n < days_of_months year 12 = subst P last lt in
+    rw last (in_month year 11 n (omega arith) (omega arith))
+months_found (suc later) j year n e lt =
+    elim (cases_lt n (month_length year (suc j))) [
+      | inl here ↦ rw (below _ _ here) (in_month year j n (omega arith) here)
+      | inr le ↦
+          let next : suc j + 1 ≡ suc (suc j) = omega arith in
+          let same : days_of_months year (suc j) + (n - month_length year (suc j)) ≡ days_of_months year j + n = omega arith in
+          let found = months_found later (suc j) year (n - month_length year (suc j)) (omega arith) (omega arith) in
+          rw (not_below _ _ le, next) (rw same at found)
+    ]
+
+year_is_months : (year : ℕ) → days_of_months year 12 ≡ year_length year
+unfolding days_of_months
+year_is_months year = grind arith
+
+in_year : (i n : ℕ) (date : Civil) → i ≤ 399 → IsInYear (1900 + i) n date → IsDateOf (pos (days_of_years i + n) -ℤ pos 25567) date
+unfolding day_number
+in_year i n date h found =
+    let years : 1900 + i - 1900 ≡ i = omega arith in
+    record {
+      valid = found.valid;
+      year_from = omega (arith, found.same);
+      year_to = omega (arith, found.same);
+      number = rw (found.same, years) (ap (λ k. pos k -ℤ pos 25567) (omega (arith, found.place)));
+    }
+
+first_in_year : (year n : ℕ) → n < year_length year → IsInYear year n (date_from_month 11 year 1 n)
+first_in_year year n lt =
+    let none : days_of_months year 0 + n ≡ n = unfold days_of_months in omega arith in
+    rw none at (months_found 11 0 year n refl (omega (arith, none, year_is_months year)))
+
+-- whole years taken off lead to a date of the day
+years_found : (later i n : ℕ) → i + later ≡ 399 → days_of_years i + n < days_of_years 400 → IsDateOf (pos (days_of_years i + n) -ℤ pos 25567) (date_from_year later (1900 + i) n)
+unfolding days_of_years date_from_year
+years_found zero i n e lt =
+    let last : i ≡ 399 = omega arith in
+    let P : ℕ → Type 0 = λ j. days_of_years j + n < days_of_years 400 in
+    let within : days_of_years 399 + n < days_of_years 400 = subst P last lt in
+    rw last (in_year 399 n _ (omega arith) (first_in_year 2299 n (omega arith)))
+years_found (suc later) i n e lt =
+    elim (cases_lt n (year_length (1900 + i))) [
+      | inl here ↦ rw (below _ _ here) (in_year i n _ (omega arith) (first_in_year (1900 + i) n here))
+      | inr le ↦
+          let next : 1900 + i + 1 ≡ 1900 + suc i = omega arith in
+          let same : days_of_years (suc i) + (n - year_length (1900 + i)) ≡ days_of_years i + n = omega arith in
+          let found = years_found later (suc i) (n - year_length (1900 + i)) (omega arith) (omega arith) in
+          rw (not_below _ _ le, next) (rw same at found)
+    ]
+
+days_of_400_years : days_of_years 400 ≡ 146_097
+unfolding days_of_years
+days_of_400_years = refl
+
+-- the date of a day is one of the calendar, and has its number
+pub civil_of-is_date : (day : ℤ) → IsDay day → IsDateOf day (civil_of day)
+unfolding civil_of days_of_years
+civil_of-is_date day h =
+    let n = unsigned_abs (day +ℤ pos 25567) in
+    let number : pos (0 + n) -ℤ pos 25567 ≡ day = omega (arith, signed_arith, one_part (day +ℤ pos 25567)) in
+    rw number at (years_found 399 0 n refl (omega (arith, signed_arith, days_of_400_years, one_part (day +ℤ pos 25567))))
+
+-- the last date of a day's month, by jiff, is that of a day too
+pub last_of_month : (day : ℤ) (d last : Date) → IsSameDate (civil_of day) d → IsDateOf day (civil_of day) → IsYmd d.year (pos d.month) (pos (days_in_month d.year d.month)) last → day_in_range (epoch_day last) ≡ Some (month_end_of day)
+last_of_month day d last same is is_last =
+    let date = civil_of day in
+    let days = month_length date.year date.month in
+    let year : last.year ≡ pos date.year = is_last.0 ∙ same.year in
+    let month : last.month ≡ date.month = omega (arith, signed_arith, is_last.1, same.month) in
+    let day_of_month : last.day ≡ days = omega (arith, signed_arith, rw (same.year, same.month) at is_last.2) in
+    let civil_last : IsCivilDate (pos date.year) date.month days = rw (year, month, day_of_month) at (civil last) in
+    rw (year, month, day_of_month) (day_in_range-date date.year date.month days civil_last ∙ if_true _ _ _ (in_years date.year is.year_from is.year_to))

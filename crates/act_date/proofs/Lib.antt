@@ -4,3 +4,6 @@ pub mod Counts
 pub mod LeapDays
 pub mod ThirtyDays
 pub mod DateTexts
+pub mod LaterCycles
+pub mod WrittenDays
+pub mod CycleTexts

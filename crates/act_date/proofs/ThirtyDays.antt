@@ -44,6 +44,11 @@ number_is day a h =
     let year : 1900 + (a.year - 1900) ≡ a.year = omega (arith, h) in
     rw year at (days_from_civil-day_number (a.year - 1900) a.month a.day h.valid.day_from) ∙ h.number
 
+-- the later date has the later day
+pub later_day : (day day₂ : ℤ) (a b : Civil) → IsDateOf day a → IsDateOf day₂ b → IsBefore a b → day <ℤ day₂
+later_day day day₂ a b h k before =
+    omega (arith, signed_arith, days_from_civil-day_count, number_is day a h, number_is day₂ b k, day_count-before day day₂ a b h k before)
+
 -- the later day has the later date
 pub later_date : (day day₂ : ℤ) (a b : Civil) → IsDateOf day a → IsDateOf day₂ b → day <ℤ day₂ → IsBefore a b
 later_date day day₂ a b h k lt =

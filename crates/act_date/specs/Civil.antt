@@ -59,14 +59,14 @@ unfoldable pub day_number : Civil → ℤ
 day_number date =
     pos (days_of_years (date.year - 1900) + days_of_months date.year (date.month - 1) + (date.day - 1)) -ℤ pos 25567
 
--- the date n days after the first of a month with so many later ones in its year, where whole months are taken off first
+-- the date n days after the first of a month; the first argument counts the later months of its year. Whole months are taken off first
 unfoldable pub date_from_month : ℕ → ℕ → ℕ → ℕ → Civil
 date_from_month zero year month n = record { year = year; month = month; day = n + 1 }
 date_from_month (suc later) year month n =
     if nat_lt n (month_length year month) then record { year = year; month = month; day = n + 1 }
     else date_from_month later year (month + 1) (n - month_length year month)
 
--- the date n days after 1 January of a year with so many later ones up to 2299, where whole years are taken off first
+-- the date n days after 1 January of a year; the first argument counts the later years up to 2299. Whole years are taken off first
 unfoldable pub date_from_year : ℕ → ℕ → ℕ → Civil
 date_from_year zero year n = date_from_month 11 year 1 n
 date_from_year (suc later) year n =
@@ -87,6 +87,12 @@ pub record IsDateOf (day : ℤ) (date : Civil) : Type 0 where
 -- the date is the last day of its month
 abbrev pub is_month_end : Civil → Bool
 is_month_end date = date.day == month_length date.year date.month
+
+-- the last day of the day's month
+abbrev pub month_end_of : ℤ → ℤ
+month_end_of day =
+    let date = civil_of day in
+    day_number (record { year = date.year; month = date.month; day = month_length date.year date.month })
 
 -- 1 for Monday to 7 for Sunday; 1900-01-01 was a Monday
 abbrev pub weekday_of : ℤ → ℕ

@@ -1,5 +1,5 @@
 -- Cycles, counted from an anchor. ACTUS cycles; the range is this profile's own.
-use Rattle.std.specs.Prelude.{ℕ, ◌+◌, ◌-◌, ◌*◌, ◌/◌, ◌%◌, min, nat_le, if◌then◌else◌, ℤ, pos, ◌+ℤ◌, Option, Some, None}
+use Rattle.std.specs.Prelude.{ℕ, ◌+◌, ◌-◌, ◌*◌, ◌/◌, ◌%◌, min, nat_le, if◌then◌else◌, ℤ, pos, ◌+ℤ◌, ◌<ℤ◌, Option, Some, None, ⊤}
 use Rattle.act_date.specs.declared.cycle.Cycle.{Cycle}
 use Rattle.act_date.specs.declared.cycle.Unit.{Unit}
 use Rattle.act_date.specs.declared.cycle.Unit.TheVariants as unit
@@ -35,5 +35,11 @@ day_after day (days n) = day_in_range (day +ℤ pos n)
 day_after day (months n) = day_number_in_range (months_later (civil_of day) n)
 
 -- the day that k cycles lead to, counted from the day
-abbrev pub plus_cycles : ℤ → Cycle → ℕ → Option ℤ
+unfoldable pub plus_cycles : ℤ → Cycle → ℕ → Option ℤ
 plus_cycles day cycle k = day_after day (step_of cycle.unit (cycle.count * k))
+
+-- a later day, or past 2299; what comes after a day past 2299 is past it too
+abbrev pub ComesAfter : Option ℤ → Option ℤ → Type 0
+ComesAfter None earlier = ⊤
+ComesAfter (Some later) None = ⊥
+ComesAfter (Some later) (Some earlier) = earlier <ℤ later

@@ -37,7 +37,7 @@ is_maturity_in_february t (Some maturity) = int_eq t maturity && ((civil_of t).m
 abbrev pub isda_second_day : ℤ → Option ℤ → ℕ
 isda_second_day t maturity = if is_maturity_in_february t maturity then (civil_of t).day else isda_day (civil_of t)
 
--- the numerator, where t is after s
+-- the numerator, where t is after s; E30 is 30E360, and E30Isda 30E360ISDA
 abbrev pub numerator : DayCount → Calendar → ℤ → ℤ → Option ℤ → ℕ
 numerator A360 calendar s t maturity = days_between s t
 numerator A365 calendar s t maturity = days_between s t

@@ -1,6 +1,6 @@
 //! Cycles.
-ghost use Rattle.std.specs.Prelude.{◌≡◌};
-ghost use Rattle.act_date.specs.Cycle.{plus_cycles, day_after, days, months};
+ghost use Rattle.std.specs.Prelude.{◌≡◌, ℕ, ◌^◌, ◌<◌};
+ghost use Rattle.act_date.specs.Cycle.{ComesAfter, plus_cycles, day_after, days, months, step_of};
 
 use crate::Day;
 use jiff::ToSpan;
@@ -8,7 +8,7 @@ use jiff::ToSpan;
 /// The length of each period of a schedule, and what becomes of a last period that isn't a whole cycle.
 #[derive(Clone, Copy, Debug, PartialEq, Eq)]
 pub struct Cycle {
-    /// How many units a period has.
+    /// How many units a period has. At 0 all days of a schedule would be one.
     pub count: u16,
     /// What the units are.
     pub unit: Unit,
@@ -42,19 +42,45 @@ pub enum Stub {
     Short,
 }
 
+/// Which days a schedule has that is counted in months and begins on the last day of a month.
+#[derive(Clone, Copy, Debug, PartialEq, Eq)]
+pub enum MonthRule {
+    /// Same day: each has the day of the month of the first, or the last day of a shorter month.
+    Sd,
+    /// End of month: each is the last day of its month.
+    Eom,
+}
+
+/// Why a text is no cycle.
+#[derive(Clone, Copy, Debug, PartialEq, Eq)]
+pub enum CycleFault {
+    /// It hasn't the form of a cycle, or of a period where one is read.
+    NotCycle = 4,
+}
+
 /// The months of 400 years, which lead from any day past 2299.
 const MOST_MONTHS: u64 = 4_800;
 
 /// The days of 400 years, which lead from any day past 2299.
 const MOST_DAYS: u64 = 146_097;
 
-/// The day `k` cycles after a day, counted from it, or None where that lies past 2299. Months keep the
-/// day of the month, or take the last day of a shorter month.
+/// The day `k` cycles after a day, or None where that lies past 2299. Months keep the day of the month, or
+/// take the last day of a shorter month; all are counted from the day itself, so 31 January and twice a
+/// month is 31 March. Where a cycle isn't empty, more cycles lead to a later day, or past 2299.
+#[tactic(auto, unfolding(crate::specs::Cycle::plus_cycles))]
 pub fn add_cycles(day: Day, cycle: Cycle, k: u32) -> Option<Day>
-    ensures { result ≡ plus_cycles day cycle k }
+    ensures value { result ≡ plus_cycles day cycle k }
+    ensures later { (m : ℕ) → k < m → 0 < cycle.count → ComesAfter (plus_cycles day cycle m) result }
 {
-    let count = u64::from(cycle.count) * u64::from(k);
-    match cycle.unit {
+    add_units(day, cycle.unit, u64::from(cycle.count) * u64::from(k))
+}
+
+/// The day so many units later, or None past 2299.
+fn add_units(day: Day, unit: Unit, count: u64) -> Option<Day>
+    requires { count < 2 ^ 48 }
+    ensures { result ≡ day_after day (step_of unit count) }
+{
+    match unit {
         Unit::D => add_days(day, count),
         Unit::W => add_days(day, 7 * count),
         Unit::M => add_months(day, count),

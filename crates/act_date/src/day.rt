@@ -1,7 +1,7 @@
 //! Days.
 ghost use Rattle.std.specs.Prelude.{◌≡◌, ◌+◌, ◌≤◌, ℤ, pos, negsuc, ◌+ℤ◌};
 ghost use Rattle.jiff.specs.Words.{epoch_day};
-ghost use Rattle.act_date.specs.Civil.{IsDay, IsDateOf, day_in_range, civil_of};
+ghost use Rattle.act_date.specs.Civil.{IsDay, IsDateOf, day_in_range, civil_of, month_end_of, weekday_of};
 ghost use Rattle.act_date.specs.JiffDate.{IsSameDate};
 
 use jiff::civil::Date;
@@ -101,4 +101,18 @@ pub fn civil(day: Day) -> (i16, u8, u8)
 {
     let date = day.date();
     (date.year(), date.month() as u8, date.day() as u8)
+}
+
+/// The last day of the day's month.
+pub fn month_end(day: Day) -> Day
+    ensures { result ≡ month_end_of day }
+{
+    Day::from_date(day.date().last_of_month()).unwrap()
+}
+
+/// The day of the week: 1 is Monday, and 7 is Sunday.
+pub fn weekday(day: Day) -> u8
+    ensures { result ≡ weekday_of day }
+{
+    (day.days_from_1900() % 7 + 1) as u8
 }

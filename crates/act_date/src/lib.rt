@@ -3,12 +3,14 @@
 
 mod calendar;
 mod cycle;
+mod cycle_text;
 mod day;
 mod day_count;
 mod text;
 
-pub use calendar::{Calendar, is_business};
-pub use cycle::{Cycle, Stub, Unit, add_cycles};
-pub use day::{DateFault, Day, civil};
+pub use calendar::{Calendar, Convention, is_business};
+pub use cycle::{Cycle, CycleFault, MonthRule, Stub, Unit, add_cycles};
+pub use cycle_text::{parse_cycle, parse_period};
+pub use day::{DateFault, Day, civil, month_end, weekday};
 pub use day_count::{DayCount, Frac, year_frac};
 pub use text::parse_day;

@@ -92,7 +92,7 @@ fn digits_behind(text: &[u8], at: usize, mark: u8) -> Option<u16>
 }
 
 /// The number that at most four digits write, or None where another byte is among them.
-fn number(digits: &[u8]) -> Option<u16>
+pub(crate) fn number(digits: &[u8]) -> Option<u16>
     requires { length digits.now ≤ 4 }
     ensures value { result ≡ number_of digits.now }
     ensures bound { IfSome result (λ n. n < 10 ^ length digits.now) }
@@ -108,9 +108,10 @@ fn number(digits: &[u8]) -> Option<u16>
 }
 
 impl Day {
-    /// Writes the day as `YYYY-MM-DD`.
+    /// Writes the day as `YYYY-MM-DD`, which [`parse_day`] reads as the day again.
     pub fn write(self, out: &mut [u8; 10])
-        ensures { out.new ≡ date_text self }
+        ensures written { out.new ≡ date_text self }
+        ensures read_back { day_of out.new ≡ Ok self }
     {
         let (year, month, day) = civil(self);
         let year = year as u16;

@@ -5,5 +5,6 @@ pub mod Limits
 pub mod Nearest
 pub mod Padded
 pub mod Products
+pub mod ReadBack
 pub mod Reading
 pub mod Scaling

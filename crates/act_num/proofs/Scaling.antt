@@ -28,7 +28,7 @@ nearest_small n d h =
     let e = nearest_split 0 n d (omega arith) in
     rw (none, small_rounds_down n d h) at e
 
-scaled_up : (n : ℕ) (z : ℤ) (k : ℕ) → z ≡ pos k → scaled_number n z ≡ n * 10 ^ k
+pub scaled_up : (n : ℕ) (z : ℤ) (k : ℕ) → z ≡ pos k → scaled_number n z ≡ n * 10 ^ k
 unfolding scaled_number
 scaled_up n z k e = ap (scaled_number n) e
 

@@ -1,4 +1,4 @@
-//! Amounts, rates, prices and scaling factors.
+//! Amounts, rates and prices.
 ghost use Rattle.std.specs.Prelude.{◌≡◌, ◌≤◌, ◌*◌, ℤ, pos, ◌+ℤ◌, ◌-ℤ◌, ◌*ℤ◌, ◌<ℤ◌, ◌≤ℤ◌, neg_ℤ, unsigned_abs, IfSome};
 ghost use Rattle.std.specs.Int.{int_max, int_min};
 ghost use Rattle.act_num.specs.Number.{InRange, largest, number_in_range, rnd, add_of, sub_of, mul_of, mul_frac_of, ratio_of, clip_of};
@@ -45,11 +45,8 @@ impl Fixed {
     pub fn from_units(units: i128) -> Option<Fixed>
         ensures { result ≡ number_in_range units }
     {
-        if units == i128::MIN {
-            None
-        } else {
-            Some(Fixed { units })
-        }
+        let units = in_range(units)?;
+        Some(Fixed { units })
     }
 
     /// How many units of 10^-9 it has.
@@ -173,14 +170,25 @@ fn rounded(units: i128, divisor: i128) -> Fixed
 }
 
 /// The product, or None where it is out of range.
-fn product(a: i128, b: i128) -> Option<i128>
+pub(crate) fn product(a: i128, b: i128) -> Option<i128>
     ensures value { result ≡ number_in_range (a *ℤ b) }
     ensures in_range { IfSome result InRange }
 {
-    let product = a.checked_mul(b)?;
-    if product == i128::MIN {
-        None
-    } else {
-        Some(product)
-    }
+    in_range(a.checked_mul(b)?)
+}
+
+/// The sum, or None where it is out of range.
+pub(crate) fn sum(a: i128, b: i128) -> Option<i128>
+    ensures value { result ≡ number_in_range (a +ℤ b) }
+    ensures in_range { IfSome result InRange }
+{
+    in_range(a.checked_add(b)?)
+}
+
+/// The units, or None where they are out of range.
+fn in_range(units: i128) -> Option<i128>
+    ensures value { result ≡ number_in_range units }
+    ensures in_range { IfSome result InRange }
+{
+    (units != i128::MIN).then_some(units)
 }

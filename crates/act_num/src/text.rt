@@ -1,6 +1,6 @@
 //! Numbers written as decimal text.
 ghost use Rattle.std.specs.Prelude.{◌≡◌, ◌+◌, ◌<◌, ◌≤◌, ◌++◌, decimal, drop, length, take};
-ghost use Rattle.act_num.specs.Decimal.{fraction_text, printed, sign_text};
+ghost use Rattle.act_num.specs.Decimal.{decimal_of, fraction_text, printed, sign_text};
 ghost use Rattle.act_num.specs.Number.{one};
 
 use crate::Fixed;
@@ -13,10 +13,12 @@ const ONE: u64 = ONE_IN_UNITS as u64;
 
 impl Fixed {
     /// Writes the number in front of `out`, and returns how many bytes its text has, at most 41: `-` where it is
-    /// negative, the whole part without leading zeros, a point and nine digits.
+    /// negative, the whole part without leading zeros, a point and nine digits. `Fixed::parse` reads the number
+    /// back from it.
     #[tactic(auto, using(crate::proofs::Padded::writing_steps), unfolding(crate::specs::Decimal::printed))]
     pub fn write(self, out: &mut [u8; 48]) -> usize
         ensures written { take result out.new ≡ printed self }
+        ensures read_back { decimal_of (take result out.new) ≡ Ok self }
         ensures rest { drop result out.new ≡ drop result out.old }
         ensures short { result ≤ 41 }
     {

@@ -1,132 +1,284 @@
 //! Rows of `act_date`.
 use act_date::{
-    Calendar, Cycle, DateFault, Day, DayCount, Stub, Unit, add_cycles, civil, is_business,
-    parse_day, year_frac,
+    Calendar, Cycle, CycleFault, DateFault, Day, DayCount, Stub, Unit, add_cycles, civil,
+    is_business, month_end, parse_cycle, parse_day, parse_period, weekday, year_frac,
 };
 use std::process::Abort;
+
+/// Days, with the count of days from 1970-01-01, the last day of the month and the day of the week, by
+/// Python's `datetime`.
+const DAYS: [(&str, i32, &str, u8); 18] = [
+    ("1900-01-01", -25_567, "1900-01-31", 1),
+    ("1900-02-10", -25_527, "1900-02-28", 6),
+    ("1900-03-01", -25_508, "1900-03-31", 4),
+    ("1969-12-31", -1, "1969-12-31", 3),
+    ("1970-01-01", 0, "1970-01-31", 4),
+    ("1999-12-31", 10_956, "1999-12-31", 5),
+    ("2000-02-29", 11_016, "2000-02-29", 2),
+    ("2000-03-01", 11_017, "2000-03-31", 3),
+    ("2020-01-01", 18_262, "2020-01-31", 3),
+    ("2020-02-01", 18_293, "2020-02-29", 6),
+    ("2020-10-30", 18_565, "2020-10-31", 5),
+    ("2020-10-31", 18_566, "2020-10-31", 6),
+    ("2021-02-28", 18_686, "2021-02-28", 7),
+    ("2024-03-03", 19_785, "2024-03-31", 7),
+    ("2100-02-28", 47_540, "2100-02-28", 7),
+    ("2299-11-30", 120_498, "2299-11-30", 4),
+    ("2299-12-01", 120_499, "2299-12-31", 5),
+    ("2299-12-31", 120_529, "2299-12-31", 7),
+];
+
+/// Texts that write no day, with the first fault.
+const DAY_FAULTS: [(&str, DateFault); 33] = [
+    ("", DateFault::NotDate),
+    ("2020-02-30", DateFault::NotDate),
+    ("2000-02-30", DateFault::NotDate),
+    ("1900-02-29", DateFault::NotDate),
+    ("2100-02-29", DateFault::NotDate),
+    ("2300-02-29", DateFault::NotDate),
+    ("2020-04-31", DateFault::NotDate),
+    ("2020-12-32", DateFault::NotDate),
+    ("2020-13-01", DateFault::NotDate),
+    ("2020-00-01", DateFault::NotDate),
+    ("2020-01-00", DateFault::NotDate),
+    ("2020-1-01", DateFault::NotDate),
+    ("2020/01/01", DateFault::NotDate),
+    ("20200101", DateFault::NotDate),
+    ("+020-01-01", DateFault::NotDate),
+    (" 2020-01-01", DateFault::NotDate),
+    ("2020-01-01 ", DateFault::NotDate),
+    ("2020-01-01T", DateFault::NotDate),
+    ("2020-01-01T12:00", DateFault::NotDate),
+    ("2020-01-01 00:00:00", DateFault::NotDate),
+    ("2020-01-01T00:00:00Z", DateFault::NotDate),
+    ("2020-01-01T00-00-00", DateFault::NotDate),
+    ("2020-02-30T12:00:00", DateFault::NotDate),
+    ("2020-01-01T12:00:00", DateFault::TimeOfDay),
+    ("2020-01-01T00:00:01", DateFault::TimeOfDay),
+    ("2020-01-01T24:00:00", DateFault::TimeOfDay),
+    ("1899-12-31T00:01:00", DateFault::TimeOfDay),
+    ("2300-01-01T00:00:01", DateFault::TimeOfDay),
+    ("2300-01-01", DateFault::DateRange),
+    ("1899-12-31", DateFault::DateRange),
+    ("1899-12-31T00:00:00", DateFault::DateRange),
+    ("0000-02-29", DateFault::DateRange),
+    ("9999-12-31", DateFault::DateRange),
+];
+
+/// Texts of cycles, with the count, the unit and the stub, by the form `P`, one to three digits, a letter, and
+/// `L0`, `L1` or nothing.
+const CYCLES: [(&str, u16, Unit, Stub); 8] = [
+    ("P1Y", 1, Unit::Y, Stub::Short),
+    ("P1YL1", 1, Unit::Y, Stub::Short),
+    ("P3ML0", 3, Unit::M, Stub::Long),
+    ("P999WL1", 999, Unit::W, Stub::Short),
+    ("P001Q", 1, Unit::Q, Stub::Short),
+    ("P010D", 10, Unit::D, Stub::Short),
+    ("P1H", 1, Unit::H, Stub::Short),
+    ("P06HL0", 6, Unit::H, Stub::Long),
+];
+
+/// Texts of periods that are empty, and so of no cycle.
+const EMPTY_PERIODS: [(&str, Unit, Stub); 3] = [
+    ("P0D", Unit::D, Stub::Short),
+    ("P000WL0", Unit::W, Stub::Long),
+    ("P00YL1", Unit::Y, Stub::Short),
+];
+
+/// Texts of no period.
+const NOT_CYCLES: [&str; 24] = [
+    "", "P", "P1", "PY", "P1000D", "P0001D", "p1Y", "P1y", "1Y", "PP1Y", "P-1Y", "P+1Y", "P1.5Y",
+    "P 1Y", "P1YL", "P1YL2", "P1Yl1", "P1YL10", "P1Y1", "P1Y ", " P1Y", "P1YM", "PT1H", "P1X",
+];
+
+/// Days, cycles and how many of them, with the day that they lead to, by `datetime` and by hand.
+const SUMS: [(&str, &str, u32, Option<&str>); 34] = [
+    ("2020-01-31", "P1M", 0, Some("2020-01-31")),
+    ("2020-01-31", "P1M", 1, Some("2020-02-29")),
+    ("2020-01-31", "P1M", 2, Some("2020-03-31")),
+    ("2019-01-30", "P1M", 1, Some("2019-02-28")),
+    ("2020-02-29", "P1M", 1, Some("2020-03-29")),
+    ("2020-02-29", "P1Y", 1, Some("2021-02-28")),
+    ("2020-02-29", "P1Y", 4, Some("2024-02-29")),
+    ("2000-02-29", "P1Y", 1, Some("2001-02-28")),
+    ("2000-02-29", "P1Y", 4, Some("2004-02-29")),
+    ("2000-02-29", "P1Y", 100, Some("2100-02-28")),
+    ("2000-02-29", "P100Y", 2, Some("2200-02-28")),
+    ("1900-01-31", "P1M", 1, Some("1900-02-28")),
+    ("2020-11-30", "P1Q", 1, Some("2021-02-28")),
+    ("2020-11-30", "P3Q", 2, Some("2022-05-30")),
+    ("2020-08-31", "P1H", 1, Some("2021-02-28")),
+    ("2020-08-31", "P1H", 2, Some("2021-08-31")),
+    ("2020-12-31", "P2W", 1, Some("2021-01-14")),
+    ("2020-02-22", "P1W", 1, Some("2020-02-29")),
+    ("2020-02-28", "P1D", 2, Some("2020-03-01")),
+    ("1900-01-01", "P999D", 146, Some("2299-05-03")),
+    ("1900-01-01", "P999D", 147, None),
+    ("2020-01-31", "P1Y", 279, Some("2299-01-31")),
+    ("2298-12-31", "P1Y", 1, Some("2299-12-31")),
+    ("2299-11-30", "P1M", 1, Some("2299-12-30")),
+    ("2299-12-01", "P1M", 1, None),
+    ("2299-12-01", "P30D", 1, Some("2299-12-31")),
+    ("2299-12-01", "P31D", 1, None),
+    ("2299-12-24", "P1W", 1, Some("2299-12-31")),
+    ("2299-12-25", "P1W", 1, None),
+    ("2299-09-30", "P1Q", 1, Some("2299-12-30")),
+    ("2299-10-01", "P1Q", 1, None),
+    ("2299-12-31", "P999Y", 0, Some("2299-12-31")),
+    ("2299-12-31", "P999Y", u32::MAX, None),
+    ("1900-01-01", "P999W", u32::MAX, None),
+];
+
+/// Two days, with the fraction of the year between them. Days are counted one by one by `datetime`: 366 for
+/// one in a common year and 365 in a leap year under AA. Those of 30E360 are worked out by hand.
+const FRACTIONS: [(DayCount, &str, &str, i64, i64); 27] = [
+    (DayCount::Aa, "2019-12-15", "2020-01-15", 11_332, 133_590),
+    (DayCount::Aa, "2020-12-31", "2021-01-02", 731, 133_590),
+    (DayCount::Aa, "1900-02-28", "1900-03-01", 366, 133_590),
+    (DayCount::Aa, "2000-02-28", "2000-03-01", 730, 133_590),
+    (DayCount::Aa, "1999-12-31", "2001-01-01", 133_956, 133_590),
+    (DayCount::Aa, "1900-12-31", "1901-01-01", 366, 133_590),
+    (
+        DayCount::Aa,
+        "1900-01-01",
+        "2000-01-01",
+        13_359_000,
+        133_590,
+    ),
+    (
+        DayCount::Aa,
+        "1900-01-01",
+        "2299-12-31",
+        53_435_634,
+        133_590,
+    ),
+    (DayCount::Aa, "2020-01-15", "2019-12-15", 0, 133_590),
+    (DayCount::A360, "2020-09-30", "2020-10-30", 30, 360),
+    (DayCount::A360, "2020-01-01", "2021-01-01", 366, 360),
+    (DayCount::A360, "1900-01-01", "2299-12-31", 146_096, 360),
+    (DayCount::A360, "2020-01-02", "2020-01-01", 0, 360),
+    (DayCount::A365, "2020-02-28", "2020-03-01", 2, 365),
+    (DayCount::A365, "2021-02-28", "2021-03-01", 1, 365),
+    (DayCount::A365, "2020-01-01", "2021-01-01", 366, 365),
+    (DayCount::A365, "2020-02-29", "2020-02-29", 0, 365),
+    (DayCount::E30, "2020-01-01", "2021-01-01", 360, 360),
+    (DayCount::E30, "2020-01-31", "2020-03-31", 60, 360),
+    (DayCount::E30, "2020-01-30", "2020-01-31", 0, 360),
+    (DayCount::E30, "2020-12-31", "2021-01-01", 1, 360),
+    (DayCount::E30, "2020-02-28", "2020-03-01", 3, 360),
+    (DayCount::E30, "2021-02-28", "2021-03-31", 32, 360),
+    (DayCount::E30, "2020-02-29", "2021-02-28", 359, 360),
+    (DayCount::E30, "2020-01-15", "2020-01-15", 0, 360),
+    (DayCount::E30, "2020-03-31", "2020-02-29", 0, 360),
+    (DayCount::E30, "1900-01-01", "2299-12-31", 143_999, 360),
+];
+
+/// Two days, with how many of 360 days lie between them under 30E360ISDA, and how many where the second one
+/// is the maturity date, by hand.
+const ISDA_DAYS: [(&str, &str, i64, i64); 12] = [
+    ("2020-08-31", "2021-02-28", 180, 178),
+    ("2020-02-29", "2020-03-31", 30, 30),
+    ("2021-02-28", "2021-03-31", 30, 30),
+    ("2020-02-29", "2021-02-28", 360, 358),
+    ("2021-02-28", "2024-02-29", 1080, 1079),
+    ("2021-02-28", "2024-02-28", 1078, 1078),
+    ("2020-01-30", "2020-01-31", 0, 0),
+    ("2020-01-31", "2020-02-28", 28, 28),
+    ("2020-01-31", "2020-02-29", 30, 29),
+    ("2021-01-15", "2021-03-31", 75, 75),
+    ("2021-02-28", "2021-02-28", 0, 0),
+    ("2021-03-01", "2021-02-28", 0, 0),
+];
+
+/// Two days, with how many business days of the calendars Nc and Mf lie between them, counted one by one by
+/// `datetime`.
+const BUSINESS_DAYS: [(&str, &str, i64, i64); 10] = [
+    ("2020-10-30", "2020-11-02", 3, 1),
+    ("2020-10-31", "2020-11-02", 2, 0),
+    ("2020-10-30", "2020-10-31", 1, 1),
+    ("2020-11-01", "2020-11-02", 1, 0),
+    ("2020-10-26", "2020-11-09", 14, 10),
+    ("2020-08-31", "2021-02-28", 181, 130),
+    ("1900-01-01", "2299-12-31", 146_096, 104_355),
+    ("2299-12-30", "2299-12-31", 1, 0),
+    ("2020-10-30", "2020-10-30", 0, 0),
+    ("2020-11-02", "2020-10-30", 0, 0),
+];
 
 fn day(rt: &impl Abort, text: &str) -> Day {
     parse_day(text.as_bytes()).expect(rt, "a day")
 }
 
 #[test]
-fn reads_days(rt: HostRuntime) {
-    let cases = [
-        ("1900-01-01", -25_567),
-        ("1970-01-01", 0),
-        ("2000-02-29", 11_016),
-        ("2020-01-01T00:00:00", 18_262),
-        ("2299-12-31", 120_529),
-    ];
-    for (text, want) in cases {
-        assert_eq!(rt; day(&rt, text).number(), want, "{text}");
+fn reads_and_writes_days(rt: HostRuntime) {
+    for (text, number, end, of_week) in DAYS {
+        let read = day(&rt, text);
+        let mut written = [0; 10];
+        read.write(&mut written);
+        assert_eq!(rt; read.number(), number, "{text}");
+        assert!(rt; written.as_slice() == text.as_bytes(), "{text}");
+        assert_eq!(rt; month_end(read), day(&rt, end), "{text}");
+        assert_eq!(rt; weekday(read), of_week, "{text}");
+        assert_eq!(rt; is_business(read, Calendar::Mf), of_week <= 5, "{text}");
+        assert!(rt; is_business(read, Calendar::Nc), "{text}");
     }
-    let faults = [
-        ("2020-02-30", DateFault::NotDate),
-        ("2020-13-01", DateFault::NotDate),
-        ("2020-00-01", DateFault::NotDate),
-        ("2020-01-00", DateFault::NotDate),
-        ("1900-02-29", DateFault::NotDate),
-        ("2020-1-01", DateFault::NotDate),
-        ("2020/01/01", DateFault::NotDate),
-        ("2020-01-01T", DateFault::NotDate),
-        ("2020-01-01T12:00", DateFault::NotDate),
-        ("2020-02-30T12:00:00", DateFault::NotDate),
-        ("2020-01-01T12:00:00", DateFault::TimeOfDay),
-        ("2300-01-01T00:00:01", DateFault::TimeOfDay),
-        ("2300-01-01", DateFault::DateRange),
-        ("1899-12-31", DateFault::DateRange),
-        ("0000-02-29", DateFault::DateRange),
-    ];
-    for (text, want) in faults {
+    assert_eq!(rt; day(&rt, "2020-01-01T00:00:00"), day(&rt, "2020-01-01"));
+    assert_eq!(rt; civil(day(&rt, "2020-02-29")), (2020, 2, 29));
+}
+
+#[test]
+fn refuses_days(rt: HostRuntime) {
+    for (text, want) in DAY_FAULTS {
         assert_eq!(rt; parse_day(text.as_bytes()), Err(want), "{text}");
     }
 }
 
 #[test]
-fn writes_days(rt: HostRuntime) {
-    let texts = ["1900-01-01", "2000-02-29", "2020-10-31", "2299-12-31"];
-    for text in texts {
-        let mut written = [0; 10];
-        day(&rt, text).write(&mut written);
-        assert!(rt; written.as_slice() == text.as_bytes(), "{text}");
+fn reads_cycles(rt: HostRuntime) {
+    for (text, count, unit, stub) in CYCLES {
+        let want = Cycle { count, unit, stub };
+        assert_eq!(rt; parse_cycle(text.as_bytes()), Ok(want), "{text}");
+        assert_eq!(rt; parse_period(text.as_bytes()), Ok(want), "{text}");
     }
-    assert_eq!(rt; civil(day(&rt, "2020-02-29")), (2020, 2, 29));
+    for (text, unit, stub) in EMPTY_PERIODS {
+        let count = 0;
+        let want = Cycle { count, unit, stub };
+        assert_eq!(rt;
+            parse_cycle(text.as_bytes()),
+            Err(CycleFault::NotCycle),
+            "{text}"
+        );
+        assert_eq!(rt; parse_period(text.as_bytes()), Ok(want), "{text}");
+    }
+    for text in NOT_CYCLES {
+        assert_eq!(rt;
+            parse_cycle(text.as_bytes()),
+            Err(CycleFault::NotCycle),
+            "{text}"
+        );
+        assert_eq!(rt;
+            parse_period(text.as_bytes()),
+            Err(CycleFault::NotCycle),
+            "{text}"
+        );
+    }
 }
 
 #[test]
 fn adds_cycles(rt: HostRuntime) {
-    let cases = [
-        ("2020-01-31", 1, Unit::M, 1, "2020-02-29"),
-        ("2020-01-31", 1, Unit::M, 2, "2020-03-31"),
-        ("2020-02-29", 1, Unit::Y, 1, "2021-02-28"),
-        ("2020-02-29", 1, Unit::Y, 4, "2024-02-29"),
-        ("2020-11-30", 1, Unit::Q, 1, "2021-02-28"),
-        ("2020-08-31", 1, Unit::H, 1, "2021-02-28"),
-        ("2020-12-31", 2, Unit::W, 1, "2021-01-14"),
-        ("2020-02-28", 1, Unit::D, 2, "2020-03-01"),
-        ("2298-12-31", 1, Unit::Y, 1, "2299-12-31"),
-        ("2020-01-31", 1, Unit::Y, 279, "2299-01-31"),
-    ];
-    for (from, count, unit, times, want) in cases {
-        let stub = Stub::Short;
-        let to = add_cycles(day(&rt, from), Cycle { count, unit, stub }, times);
-        assert_eq!(rt; to, Some(day(&rt, want)), "{from} {times}");
+    for (from, cycle, times, want) in SUMS {
+        let cycle = parse_cycle(cycle.as_bytes()).expect(&rt, "a cycle");
+        let sum = add_cycles(day(&rt, from), cycle, times);
+        match want {
+            Some(want) => assert_eq!(rt; sum, Some(day(&rt, want)), "{from} {times}"),
+            None => assert_eq!(rt; sum, None, "{from} {times}"),
+        }
     }
-    let stub = Stub::Short;
-    let last = day(&rt, "2299-12-31");
-    let month = Cycle {
-        count: 1,
-        unit: Unit::M,
-        stub,
-    };
-    let century = Cycle {
-        count: 999,
-        unit: Unit::Y,
-        stub,
-    };
-    assert_eq!(rt;
-        add_cycles(
-            last,
-            Cycle {
-                count: 1,
-                unit: Unit::D,
-                stub
-            },
-            1
-        ),
-        None
-    );
-    assert_eq!(rt; add_cycles(last, month, 1), None);
-    assert_eq!(rt; add_cycles(last, century, u32::MAX), None);
-    assert_eq!(rt; add_cycles(last, century, 0), Some(last));
 }
 
 #[test]
 fn counts_fractions(rt: HostRuntime) {
-    let cases = [
-        (DayCount::Aa, "2019-12-15", "2020-01-15", 11_332, 133_590),
-        (DayCount::A360, "2020-09-30", "2020-10-30", 30, 360),
-        (DayCount::A365, "2020-02-28", "2020-03-01", 2, 365),
-        (DayCount::E30, "2020-01-01", "2021-01-01", 360, 360),
-        (DayCount::E30, "2020-01-31", "2020-03-31", 60, 360),
-        (DayCount::E30, "2020-02-28", "2020-03-01", 3, 360),
-        (DayCount::E30Isda, "2020-08-31", "2021-02-28", 180, 360),
-        (DayCount::E30Isda, "2020-02-29", "2020-03-31", 30, 360),
-        (DayCount::B252, "2020-10-30", "2020-11-02", 1, 252),
-        (DayCount::B252, "2020-10-26", "2020-11-09", 10, 252),
-        (DayCount::B252, "1900-01-01", "2299-12-31", 104_355, 252),
-        (
-            DayCount::Aa,
-            "1900-01-01",
-            "2299-12-31",
-            53_435_634,
-            133_590,
-        ),
-        (DayCount::Aa, "2020-01-15", "2019-12-15", 0, 133_590),
-        (DayCount::E30, "2020-01-15", "2020-01-15", 0, 360),
-    ];
-    for (count, first, second, num, den) in cases {
+    for (count, first, second, num, den) in FRACTIONS {
         let fraction = year_frac(count, Calendar::Mf, day(&rt, first), day(&rt, second), None);
         assert_eq!(rt;
             (fraction.num, fraction.den),
@@ -134,36 +286,28 @@ fn counts_fractions(rt: HostRuntime) {
             "{first} {second}"
         );
     }
-    let maturity = day(&rt, "2021-02-28");
-    let first = day(&rt, "2020-08-31");
-    let kept = year_frac(
-        DayCount::E30Isda,
-        Calendar::Nc,
-        first,
-        maturity,
-        Some(maturity),
-    );
-    assert_eq!(rt; kept.num, 178, "maturity keeps its day");
-    let all = year_frac(DayCount::B252, Calendar::Nc, first, maturity, None);
-    assert_eq!(rt; all.num, 181, "each day is a business day");
-}
-
-#[test]
-fn knows_business_days(rt: HostRuntime) {
-    assert!(rt;
-        is_business(day(&rt, "2020-10-30"), Calendar::Mf),
-        "a Friday"
-    );
-    assert!(rt;
-        !is_business(day(&rt, "2020-10-31"), Calendar::Mf),
-        "a Saturday"
-    );
-    assert!(rt;
-        !is_business(day(&rt, "2299-12-31"), Calendar::Mf),
-        "a Sunday"
-    );
-    assert!(rt;
-        is_business(day(&rt, "2020-10-31"), Calendar::Nc),
-        "every day"
-    );
+    for (first, second, num, num_to_maturity) in ISDA_DAYS {
+        let (s, t) = (day(&rt, first), day(&rt, second));
+        let count = DayCount::E30Isda;
+        let plain = year_frac(count, Calendar::Nc, s, t, None);
+        let to_maturity = year_frac(count, Calendar::Nc, s, t, Some(t));
+        assert_eq!(rt; (plain.num, plain.den), (num, 360), "{first} {second}");
+        assert_eq!(rt; to_maturity.num, num_to_maturity, "{first} {second}");
+        assert_eq!(rt;
+            year_frac(count, Calendar::Nc, s, t, Some(s)),
+            plain,
+            "{first}"
+        );
+    }
+    for (first, second, every_day, weekdays) in BUSINESS_DAYS {
+        let (s, t) = (day(&rt, first), day(&rt, second));
+        let all = year_frac(DayCount::B252, Calendar::Nc, s, t, None);
+        let business = year_frac(DayCount::B252, Calendar::Mf, s, t, None);
+        assert_eq!(rt; (all.num, all.den), (every_day, 252), "{first} {second}");
+        assert_eq!(rt;
+            (business.num, business.den),
+            (weekdays, 252),
+            "{first} {second}"
+        );
+    }
 }

@@ -1,5 +1,7 @@
-use Rattle.std.proofs.Common.{◌∙◌, arith}
+use Rattle.std.proofs.Common.{ap, ◌∙◌, arith, rules}
+use Rattle.act_num.specs.Decimal.{decimal_of, printed}
 use Rattle.act_num.proofs.Padded.{drop_later}
+use Rattle.act_num.proofs.ReadBack.{decimal_of-printed}
 use Rattle.act_num.proofs.fixed.Fixed.write.Goals as goal
 
 pub returns-clause-rest : goal.returns-clause-rest
@@ -8,3 +10,7 @@ returns-clause-rest c =
     ∙ drop_later _ _ c.put-end-2.result _ c.put-end-2.ensures.rest (omega arith)
     ∙ drop_later _ _ c.put_whole-end.result _ c.put_whole-end.ensures.rest (omega arith)
     ∙ drop_later _ _ c.put-end.result _ c.put-end.ensures.rest (omega arith)
+
+pub returns-clause-read_back : goal.returns-clause-read_back
+unfolding printed
+returns-clause-read_back c = ap decimal_of (search rules) ∙ decimal_of-printed c.args.self (search rules)

@@ -1,0 +1,66 @@
+//! Scaling factors.
+ghost use Rattle.std.specs.Prelude.{◌≡◌, pos, ◌≤ℤ◌, unsigned_abs};
+ghost use Rattle.act_num.specs.Factor.{one_plus_of, times_of};
+ghost use Rattle.act_num.specs.Number.{InRange};
+
+use crate::Fixed;
+use crate::fixed::{product, sum};
+use crate::rounding::rnd;
+use std::marker::Model;
+
+/// The units of the factor 1.
+const ONE_IN_UNITS: i128 = 1_000_000_000_000;
+
+/// How many units of a factor make one unit of a rate.
+const UNITS_IN_RATE_UNIT: i128 = 1_000;
+
+/// A scaling factor in whole units of 10^-12, from `-(2^127 - 1)` to `2^127 - 1` of them.
+#[derive(Clone, Copy, Debug, PartialEq, Eq, PartialOrd, Ord)]
+pub struct Factor {
+    units: i128,
+}
+
+impl Model for Factor {
+    ghost use Rattle.std.specs.Prelude.{ℤ};
+    ghost use Rattle.act_num.specs.Number.{InRange};
+
+    ghost Value = { ℤ };
+
+    ghost view = { λ f. f.units };
+
+    ghost invariant = { λ f. InRange f.units };
+
+    ghost inverse = { λ z. record { units = z } };
+}
+
+impl Factor {
+    /// The factor `1 + rate * num/den` of a yearly rate and the fraction `num/den` of a year, rounded once, or
+    /// None where the product of the rate's units with `num`, that times 1000, or the sum is out of range.
+    pub fn one_plus(rate: Fixed, num: i64, den: i64) -> Option<Factor>
+        requires num_in { pos 0 ≤ℤ num }
+        requires den_above { pos 1 ≤ℤ den }
+        requires den_in { den ≤ℤ pos 133_590 }
+        ensures { result ≡ one_plus_of rate num (unsigned_abs den) }
+    {
+        let product = product(product(rate.units(), i128::from(num))?, UNITS_IN_RATE_UNIT)?;
+        let units = sum(ONE_IN_UNITS, rnd(product, i128::from(den)))?;
+        Some(Factor { units })
+    }
+
+    /// The product, rounded once, or None where the product of the units is out of range.
+    pub fn times(self, b: Factor) -> Option<Factor>
+        ensures { result ≡ times_of self b }
+    {
+        let product = product(self.units, b.units)?;
+        let units = rnd(product, ONE_IN_UNITS);
+        Some(Factor { units })
+    }
+
+    /// How many units of 10^-12 it has.
+    pub fn units(self) -> i128
+        ensures value { result ≡ self }
+        ensures in_range { InRange result }
+    {
+        self.units
+    }
+}
