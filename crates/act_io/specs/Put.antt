@@ -4,7 +4,7 @@ use Rattle.act_io.specs.declared.sink.PutFault.{PutFault}
 use Rattle.act_io.specs.declared.sink.PutFault.TheVariants.{Failed, NoMemory}
 use Rattle.act_io.specs.Faults.{next_count}
 
--- what was written, with these bytes behind it
+-- what was written, with these bytes behind it; None where the sink doesn't tell
 abbrev pub written_after : Option (List ℕ) → List ℕ → Option (List ℕ)
 written_after written bytes = option_map (λ (before : List ℕ). before ++ bytes) written
 

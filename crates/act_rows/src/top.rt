@@ -11,14 +11,24 @@ use std::test::Fail;
 
 /// A loan of 1000 for a year at the rate 0.05.
 const P1: &str =
-    "[{\"contractID\":\"P1\",\"contractType\":\"PAM\",\"contractRole\":\"RPA\",\"statusDate\":\"2019-12-31\",\"currency\":\"EUR\",\"initialExchangeDate\":\"2020-01-01\",\"maturityDate\":\"2021-01-01\",\"notionalPrincipal\":1000,\"nominalInterestRate\":0.05,\"dayCountConvention\":\"30E360\",\"cycleOfInterestPayment\":\"P1YL1\"}]";
+    r#"[{"contractID":"P1","contractType":"PAM","contractRole":"RPA","statusDate":"2019-12-31","currency":"EUR","initialExchangeDate":"2020-01-01","maturityDate":"2021-01-01","notionalPrincipal":1000,"nominalInterestRate":0.05,"dayCountConvention":"30E360","cycleOfInterestPayment":"P1YL1"}]"#;
 
-/// Portfolio files, each with the status and the bytes of `eval`.
-const CASES: [(&str, Status, &str); 20] = [
+/// What is written where the bytes have no reading as JSON.
+const NOT_JSON: &str = "portfolio 10 0 -\n";
+
+/// What is written where they have one that isn't built yet.
+const NOT_BUILT: &str = "portfolio 24 0 -\n";
+
+/// Portfolio files, each with the status and the bytes of `eval`. The rows are worked out by hand.
+const WHOLE: [(&str, Status, &str); 7] = [
     (
         P1,
         Status::Done,
-        "journal 1\n1 ask *\nanswers 1\nanswer 1 1 0\ncontract P1\n2020-01-01 IED EUR -1000.000000000 1000.000000000 0.050000000 0.000000000\n2021-01-01 IP EUR 50.000000000 1000.000000000 0.050000000 0.000000000\n2021-01-01 MD EUR 1000.000000000 0.000000000 0.050000000 0.000000000\nend\n",
+        "journal 1\n1 ask *\nanswers 1\nanswer 1 1 0\ncontract P1\n\
+         2020-01-01 IED EUR -1000.000000000 1000.000000000 0.050000000 0.000000000\n\
+         2021-01-01 IP EUR 50.000000000 1000.000000000 0.050000000 0.000000000\n\
+         2021-01-01 MD EUR 1000.000000000 0.000000000 0.050000000 0.000000000\n\
+         end\n",
     ),
     (
         "[]",
@@ -26,87 +36,90 @@ const CASES: [(&str, Status, &str); 20] = [
         "journal 1\n1 ask *\nanswers 1\nanswer 1 1 0\n",
     ),
     (
-        "[{\"contractID\":\"P1\",\"contractType\":\"PAM\",\"contractRole\":\"RPA\",\"statusDate\":\"2019-12-31\",\"currency\":\"EUR\",\"initialExchangeDate\":\"2020-01-01\",\"maturityDate\":\"2021-01-01\",\"notionalPrincipal\":0.000000001,\"nominalInterestRate\":0.5,\"dayCountConvention\":\"30E360\",\"cycleOfInterestPayment\":\"P1YL1\"}]",
+        r#"[{"contractID":"P1"}]"#,
+        Status::PortfolioRefused,
+        NOT_BUILT,
+    ),
+    (
+        r#"[{"contractID":"P1","contractType":"PAM","contractRole":"RPA","statusDate":"2019-12-31","currency":"EUR","initialExchangeDate":"2020-01-01","maturityDate":"2021-01-01","notionalPrincipal":1000,"nominalInterestRate":0.05,"dayCountConvention":"30E360","cycleOfInterestPayment":"P1YL1"},{"contractID":"P1","contractType":"PAM","contractRole":"RPA","statusDate":"2019-12-31","currency":"EUR","initialExchangeDate":"2020-01-01","maturityDate":"2021-01-01","notionalPrincipal":1000,"nominalInterestRate":0.05,"dayCountConvention":"30E360","cycleOfInterestPayment":"P1YL1"}]"#,
+        Status::PortfolioRefused,
+        NOT_BUILT,
+    ),
+    ("{}", Status::PortfolioRefused, NOT_BUILT),
+    (r#"[{"contractID":"P1""#, Status::PortfolioRefused, NOT_JSON),
+    ("", Status::PortfolioRefused, NOT_JSON),
+];
+
+/// Texts that stand once in [`P1`] and what takes their place, each with the status and the bytes of `eval`.
+/// The rows are worked out by hand.
+const CHANGES: [(&str, &str, Status, &str); 13] = [
+    (
+        r#"1000,"nominalInterestRate":0.05"#,
+        r#"0.000000001,"nominalInterestRate":0.5"#,
         Status::Done,
-        "journal 1\n1 ask *\nanswers 1\nanswer 1 1 0\ncontract P1\n2020-01-01 IED EUR -0.000000001 0.000000001 0.500000000 0.000000000\n2021-01-01 IP EUR 0.000000000 0.000000001 0.500000000 0.000000000\n2021-01-01 MD EUR 0.000000001 0.000000000 0.500000000 0.000000000\nend\n",
+        "journal 1\n1 ask *\nanswers 1\nanswer 1 1 0\ncontract P1\n\
+         2020-01-01 IED EUR -0.000000001 0.000000001 0.500000000 0.000000000\n\
+         2021-01-01 IP EUR 0.000000000 0.000000001 0.500000000 0.000000000\n\
+         2021-01-01 MD EUR 0.000000001 0.000000000 0.500000000 0.000000000\n\
+         end\n",
     ),
     (
-        "[{\"contractID\":\"P1\",\"contractType\":\"PAM\",\"contractRole\":\"RPA\",\"statusDate\":\"2019-12-31\",\"currency\":\"EUR\",\"initialExchangeDate\":\"2020-01-01\",\"maturityDate\":\"2021-01-01\",\"notionalPrincipal\":3e-9,\"nominalInterestRate\":0.5,\"dayCountConvention\":\"30E360\",\"cycleOfInterestPayment\":\"P1YL1\"}]",
+        r#"1000,"nominalInterestRate":0.05"#,
+        r#"3e-9,"nominalInterestRate":0.5"#,
         Status::Done,
-        "journal 1\n1 ask *\nanswers 1\nanswer 1 1 0\ncontract P1\n2020-01-01 IED EUR -0.000000003 0.000000003 0.500000000 0.000000000\n2021-01-01 IP EUR 0.000000002 0.000000003 0.500000000 0.000000000\n2021-01-01 MD EUR 0.000000003 0.000000000 0.500000000 0.000000000\nend\n",
+        "journal 1\n1 ask *\nanswers 1\nanswer 1 1 0\ncontract P1\n\
+         2020-01-01 IED EUR -0.000000003 0.000000003 0.500000000 0.000000000\n\
+         2021-01-01 IP EUR 0.000000002 0.000000003 0.500000000 0.000000000\n\
+         2021-01-01 MD EUR 0.000000003 0.000000000 0.500000000 0.000000000\n\
+         end\n",
     ),
     (
-        "[{\"contractID\":\"P1\",\"contractType\":\"PAM\",\"contractRole\":\"RPA\",\"statusDate\":\"2019-12-31\",\"currency\":\"EUR\",\"initialExchangeDate\":\"2020-01-01\",\"maturityDate\":\"2020-07-01\",\"notionalPrincipal\":1000,\"nominalInterestRate\":0.05,\"dayCountConvention\":\"30E360\",\"cycleOfInterestPayment\":\"P1YL1\"}]",
+        "2021-01-01",
+        "2020-07-01",
         Status::Done,
-        "journal 1\n1 ask *\nanswers 1\nanswer 1 1 0\ncontract P1\n2020-01-01 IED EUR -1000.000000000 1000.000000000 0.050000000 0.000000000\n2020-07-01 MD EUR 1025.000000000 0.000000000 0.050000000 0.000000000\nend\n",
+        "journal 1\n1 ask *\nanswers 1\nanswer 1 1 0\ncontract P1\n\
+         2020-01-01 IED EUR -1000.000000000 1000.000000000 0.050000000 0.000000000\n\
+         2020-07-01 MD EUR 1025.000000000 0.000000000 0.050000000 0.000000000\n\
+         end\n",
     ),
     (
-        "[{\"contractID\":\"P1\",\"contractType\":\"PAM\",\"contractRole\":\"RPA\",\"statusDate\":\"2019-12-31\",\"currency\":\"EUR\",\"initialExchangeDate\":\"2020-02-29\",\"maturityDate\":\"2024-03-01\",\"notionalPrincipal\":1000,\"nominalInterestRate\":0.05,\"dayCountConvention\":\"30E360\",\"cycleOfInterestPayment\":\"P1YL1\"}]",
+        r#"2020-01-01","maturityDate":"2021-01-01"#,
+        r#"2020-02-29","maturityDate":"2024-03-01"#,
         Status::Done,
-        "journal 1\n1 ask *\nanswers 1\nanswer 1 1 0\ncontract P1\n2020-02-29 IED EUR -1000.000000000 1000.000000000 0.050000000 0.000000000\n2021-02-28 IP EUR 49.861111111 1000.000000000 0.050000000 0.000000000\n2022-02-28 IP EUR 50.000000000 1000.000000000 0.050000000 0.000000000\n2023-02-28 IP EUR 50.000000000 1000.000000000 0.050000000 0.000000000\n2024-02-28 IP EUR 50.000000000 1000.000000000 0.050000000 0.000000000\n2024-03-01 IP EUR 0.416666667 1000.000000000 0.050000000 0.000000000\n2024-03-01 MD EUR 1000.000000000 0.000000000 0.050000000 0.000000000\nend\n",
+        "journal 1\n1 ask *\nanswers 1\nanswer 1 1 0\ncontract P1\n\
+         2020-02-29 IED EUR -1000.000000000 1000.000000000 0.050000000 0.000000000\n\
+         2021-02-28 IP EUR 49.861111111 1000.000000000 0.050000000 0.000000000\n\
+         2022-02-28 IP EUR 50.000000000 1000.000000000 0.050000000 0.000000000\n\
+         2023-02-28 IP EUR 50.000000000 1000.000000000 0.050000000 0.000000000\n\
+         2024-02-28 IP EUR 50.000000000 1000.000000000 0.050000000 0.000000000\n\
+         2024-03-01 IP EUR 0.416666667 1000.000000000 0.050000000 0.000000000\n\
+         2024-03-01 MD EUR 1000.000000000 0.000000000 0.050000000 0.000000000\n\
+         end\n",
     ),
+    (r#""RPA""#, r#""RPL""#, Status::PortfolioRefused, NOT_BUILT),
+    (r#""P1""#, r#""*""#, Status::PortfolioRefused, NOT_BUILT),
     (
-        "[{\"contractID\":\"P1\"}]",
+        "2019-12-31",
+        "2020-01-01",
         Status::PortfolioRefused,
-        "portfolio 24 0 -\n",
+        NOT_BUILT,
     ),
+    ("0.05", "1.000000001", Status::PortfolioRefused, NOT_BUILT),
+    ("1000", "-1", Status::PortfolioRefused, NOT_BUILT),
     (
-        "[{\"contractID\":\"P1\",\"contractType\":\"PAM\",\"contractRole\":\"RPA\",\"statusDate\":\"2019-12-31\",\"currency\":\"EUR\",\"initialExchangeDate\":\"2020-01-01\",\"maturityDate\":\"2021-01-01\",\"notionalPrincipal\":1000,\"nominalInterestRate\":0.05,\"dayCountConvention\":\"30E360\",\"cycleOfInterestPayment\":\"P1YL1\"},{\"contractID\":\"P1\",\"contractType\":\"PAM\",\"contractRole\":\"RPA\",\"statusDate\":\"2019-12-31\",\"currency\":\"EUR\",\"initialExchangeDate\":\"2020-01-01\",\"maturityDate\":\"2021-01-01\",\"notionalPrincipal\":1000,\"nominalInterestRate\":0.05,\"dayCountConvention\":\"30E360\",\"cycleOfInterestPayment\":\"P1YL1\"}]",
+        r#""P1YL1""#,
+        r#""P1YL1","x":"1""#,
         Status::PortfolioRefused,
-        "portfolio 24 0 -\n",
+        NOT_BUILT,
     ),
-    ("{}", Status::PortfolioRefused, "portfolio 24 0 -\n"),
+    ("0.05", "null", Status::PortfolioRefused, NOT_BUILT),
     (
-        "[{\"contractID\":\"P1\",\"contractType\":\"PAM\",\"contractRole\":\"RPL\",\"statusDate\":\"2019-12-31\",\"currency\":\"EUR\",\"initialExchangeDate\":\"2020-01-01\",\"maturityDate\":\"2021-01-01\",\"notionalPrincipal\":1000,\"nominalInterestRate\":0.05,\"dayCountConvention\":\"30E360\",\"cycleOfInterestPayment\":\"P1YL1\"}]",
+        "2021-01-01",
+        "2299-01-01",
         Status::PortfolioRefused,
-        "portfolio 24 0 -\n",
+        NOT_BUILT,
     ),
-    (
-        "[{\"contractID\":\"*\",\"contractType\":\"PAM\",\"contractRole\":\"RPA\",\"statusDate\":\"2019-12-31\",\"currency\":\"EUR\",\"initialExchangeDate\":\"2020-01-01\",\"maturityDate\":\"2021-01-01\",\"notionalPrincipal\":1000,\"nominalInterestRate\":0.05,\"dayCountConvention\":\"30E360\",\"cycleOfInterestPayment\":\"P1YL1\"}]",
-        Status::PortfolioRefused,
-        "portfolio 24 0 -\n",
-    ),
-    (
-        "[{\"contractID\":\"P1\",\"contractType\":\"PAM\",\"contractRole\":\"RPA\",\"statusDate\":\"2020-01-01\",\"currency\":\"EUR\",\"initialExchangeDate\":\"2020-01-01\",\"maturityDate\":\"2021-01-01\",\"notionalPrincipal\":1000,\"nominalInterestRate\":0.05,\"dayCountConvention\":\"30E360\",\"cycleOfInterestPayment\":\"P1YL1\"}]",
-        Status::PortfolioRefused,
-        "portfolio 24 0 -\n",
-    ),
-    (
-        "[{\"contractID\":\"P1\",\"contractType\":\"PAM\",\"contractRole\":\"RPA\",\"statusDate\":\"2019-12-31\",\"currency\":\"EUR\",\"initialExchangeDate\":\"2020-01-01\",\"maturityDate\":\"2021-01-01\",\"notionalPrincipal\":1000,\"nominalInterestRate\":1.000000001,\"dayCountConvention\":\"30E360\",\"cycleOfInterestPayment\":\"P1YL1\"}]",
-        Status::PortfolioRefused,
-        "portfolio 24 0 -\n",
-    ),
-    (
-        "[{\"contractID\":\"P1\",\"contractType\":\"PAM\",\"contractRole\":\"RPA\",\"statusDate\":\"2019-12-31\",\"currency\":\"EUR\",\"initialExchangeDate\":\"2020-01-01\",\"maturityDate\":\"2021-01-01\",\"notionalPrincipal\":-1,\"nominalInterestRate\":0.05,\"dayCountConvention\":\"30E360\",\"cycleOfInterestPayment\":\"P1YL1\"}]",
-        Status::PortfolioRefused,
-        "portfolio 24 0 -\n",
-    ),
-    (
-        "[{\"contractID\":\"P1\",\"contractType\":\"PAM\",\"contractRole\":\"RPA\",\"statusDate\":\"2019-12-31\",\"currency\":\"EUR\",\"initialExchangeDate\":\"2020-01-01\",\"maturityDate\":\"2021-01-01\",\"notionalPrincipal\":1000,\"nominalInterestRate\":0.05,\"dayCountConvention\":\"30E360\",\"cycleOfInterestPayment\":\"P1YL1\",\"x\":\"1\"}]",
-        Status::PortfolioRefused,
-        "portfolio 24 0 -\n",
-    ),
-    (
-        "[{\"contractID\":\"P1\",\"contractType\":\"PAM\",\"contractRole\":\"RPA\",\"statusDate\":\"2019-12-31\",\"currency\":\"EUR\",\"initialExchangeDate\":\"2020-01-01\",\"maturityDate\":\"2021-01-01\",\"notionalPrincipal\":1000,\"nominalInterestRate\":null,\"dayCountConvention\":\"30E360\",\"cycleOfInterestPayment\":\"P1YL1\"}]",
-        Status::PortfolioRefused,
-        "portfolio 24 0 -\n",
-    ),
-    (
-        "[{\"contractID\":\"P1\",\"contractType\":\"PAM\",\"contractRole\":\"RPA\",\"statusDate\":\"2019-12-31\",\"currency\":\"EUR\",\"initialExchangeDate\":\"2020-01-01\",\"maturityDate\":\"2299-01-01\",\"notionalPrincipal\":1000,\"nominalInterestRate\":0.05,\"dayCountConvention\":\"30E360\",\"cycleOfInterestPayment\":\"P1YL1\"}]",
-        Status::PortfolioRefused,
-        "portfolio 24 0 -\n",
-    ),
-    (
-        "[{\"contractID\":\"P1\"",
-        Status::PortfolioRefused,
-        "portfolio 10 0 -\n",
-    ),
-    ("", Status::PortfolioRefused, "portfolio 10 0 -\n"),
-    (
-        "[{\"contractID\":\"P1\",\"contractType\":\"PAM\",\"contractRole\":\"RPA\",\"statusDate\":\"2019-12-31\",\"currency\":\"EUR\",\"initialExchangeDate\":\"2020-01-01\",\"maturityDate\":\"2021-01-01\",\"notionalPrincipal\":+1000,\"nominalInterestRate\":0.05,\"dayCountConvention\":\"30E360\",\"cycleOfInterestPayment\":\"P1YL1\"}]",
-        Status::PortfolioRefused,
-        "portfolio 10 0 -\n",
-    ),
+    ("1000", "+1000", Status::PortfolioRefused, NOT_JSON),
 ];
 
 fn words(alloc: Global, texts: &[&str]) -> Result<Vec<String>, Fail> {
@@ -150,14 +163,36 @@ fn run<L: Ledger, F: Files, K: Sink>(
     eval_top(alloc, words, files, out, &mut steps)
 }
 
+/// The portfolio [`P1`] with one text in the place of another.
+fn changed(alloc: Global, from: &str, to: &str) -> Result<String, Fail> {
+    let (before, behind) = P1.split_once(from).ok_or("no such text in P1")?;
+    let mut portfolio = String::from_str(alloc, before)?;
+    portfolio.push_str(to)?;
+    portfolio.push_str(behind)?;
+    Ok(portfolio)
+}
+
 #[test]
 fn evaluates_portfolios(rt: HostRuntime) -> Result<(), Fail> {
     let alloc = rt.alloc();
-    for (portfolio, want, text) in CASES {
+    for (portfolio, want, text) in WHOLE {
         let mut out = MemSink::new(alloc, Vec::new(alloc));
         let status = status(alloc, &["eval", "p1.json"], portfolio.as_bytes(), &mut out)?;
         assert_eq!(rt; status, want, "{portfolio}");
         assert!(rt; out.bytes() == text.as_bytes(), "{portfolio}");
+    }
+    Ok(())
+}
+
+#[test]
+fn evaluates_changed_portfolios(rt: HostRuntime) -> Result<(), Fail> {
+    let alloc = rt.alloc();
+    for (from, to, want, text) in CHANGES {
+        let portfolio = changed(alloc, from, to)?;
+        let mut out = MemSink::new(alloc, Vec::new(alloc));
+        let status = status(alloc, &["eval", "p1.json"], portfolio.as_bytes(), &mut out)?;
+        assert_eq!(rt; status, want, "{to} for {from}");
+        assert!(rt; out.bytes() == text.as_bytes(), "{to} for {from}");
     }
     Ok(())
 }

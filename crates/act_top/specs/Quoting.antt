@@ -17,7 +17,7 @@ pub data Place : Type 0 where
   string : Place
   escaped : Place
 
--- the place behind a byte that goes on nothing
+-- the place behind a byte that doesn't go on with a run or a string
 abbrev pub place_from : ℕ → Place
 place_from b =
     if b == 34 then string else (if starts_number b then number else (if is_number_byte b then other_run else outside))
@@ -55,7 +55,7 @@ quoted_from place (b ∷ bs) = quote_before place b ++ b ∷ quoted_from (place_
 abbrev pub quoted : List ℕ → List ℕ
 quoted text = quoted_from outside text
 
--- a piece of a text between quotes, where it starts as a number does
+-- a piece that the pass over the text comes to, between quotes where it starts as a number does
 abbrev pub quoted_piece : List ℕ → List ℕ
 quoted_piece [] = []
 quoted_piece (b ∷ bs) = if starts_number b then 34 ∷ (b ∷ bs) ++ 34 ∷ [] else b ∷ bs

@@ -1,10 +1,18 @@
 //! Portfolios of one loan, read from JSON.
+ghost use Rattle.std.specs.Prelude.{◌≡◌, ◌≢◌, None, Some, Err, IfOk, option_map};
+ghost use Rattle.std.specs.List.{list_all};
+ghost use Rattle.serde_json.specs.Find.{as_array};
+ghost use Rattle.serde_json.specs.View.{view};
+ghost use Rattle.act_top.specs.Portfolio.{amounts_in_bounds, ends_in_time, day_at, days_in_order, decimal_at, given, has_fixed_terms, is_graphic, is_name, is_plain, is_text, loan_of, plain_loan, portfolio_of, reading_of, terms_of, text_at};
+ghost use Rattle.act_top.specs.declared.portfolio.PortfolioFault.TheVariants.{NoMemory, NotBuilt, NotJson};
+
 use crate::loan::Loan;
 use crate::quote::quote;
 use act_date::{Day, parse_day};
 use act_num::Fixed;
-use serde_json::{Map, Value};
+use serde_json::Value;
 use std::alloc::{AllocError, Global};
+use std::marker::Model;
 
 /// Why a portfolio is refused.
 #[derive(Clone, Copy, Debug, PartialEq, Eq)]
@@ -38,118 +46,214 @@ const MOST_CURRENCY: usize = 16;
 const TERMS: usize = 11;
 
 /// The loan of a portfolio file's bytes, or none of an empty list.
-pub fn read(alloc: Global, bytes: &[u8]) -> Result<Option<Loan>, PortfolioFault> {
-    let quoted = quote(alloc, bytes).map_err(|_| PortfolioFault::NoMemory)?;
-    let value = match Value::from_slice(alloc, &quoted) {
-        Ok(value) => value,
-        Err(error) if error.is_memory() => return Err(PortfolioFault::NoMemory),
-        Err(_) => return Err(PortfolioFault::NotJson),
+pub fn read(alloc: Global, bytes: &[u8]) -> Result<Option<Loan>, PortfolioFault>
+    ensures { result ≢ Err NoMemory → result ≡ portfolio_of bytes.now }
+{
+    let value = read_json(alloc, bytes)?;
+    match plain_contracts(&value) {
+        None => Err(PortfolioFault::NotBuilt),
+        Some(None) => Ok(None),
+        Some(Some(terms)) => match terms.to_loan(alloc) {
+            Ok(loan) => Ok(Some(loan)),
+            Err(_) => Err(PortfolioFault::NoMemory),
+        },
+    }
+}
+
+/// The JSON value that the bytes are read as, once each bare number is in quotes.
+#[tactic(auto, unfolding(crate::specs::Portfolio::reading_of))]
+fn read_json(alloc: Global, bytes: &[u8]) -> Result<Value, PortfolioFault>
+    ensures value { IfOk result (λ value. reading_of bytes.now ≡ Some (view value)) }
+    ensures none { result ≡ Err NotJson → reading_of bytes.now ≡ None }
+    ensures built { result ≢ Err NotBuilt }
+{
+    let Ok(quoted) = quote(alloc, bytes) else {
+        return Err(PortfolioFault::NoMemory);
     };
-    let Some(contracts) = value.as_array() else {
-        return Err(PortfolioFault::NotBuilt);
-    };
-    match contracts.as_slice() {
-        [] => Ok(None),
-        [contract] => {
-            let Some(terms) = plain_terms(contract) else {
-                return Err(PortfolioFault::NotBuilt);
-            };
-            let loan = terms.to_loan(alloc).map_err(|_| PortfolioFault::NoMemory)?;
-            Ok(Some(loan))
+    match Value::from_slice(alloc, &quoted) {
+        Ok(value) => Ok(value),
+        Err(error) => {
+            if error.is_memory() {
+                Err(PortfolioFault::NoMemory)
+            } else {
+                Err(PortfolioFault::NotJson)
+            }
         }
-        _ => Err(PortfolioFault::NotBuilt),
+    }
+}
+
+/// The terms of a list of one plain loan, or none of an empty list, or None of another value.
+fn plain_contracts(value: &Value) -> Option<Option<Terms<'_>>>
+    ensures { result ≡ given (as_array (view value.now)) loan_of }
+{
+    match value.as_array()?.as_slice() {
+        [] => Some(None),
+        [contract] => Some(Some(plain_terms(contract)?)),
+        _ => None,
     }
 }
 
 /// The terms of a loan that are computed with.
-#[derive(Clone, Copy)]
+#[derive(Drop)]
 struct Terms<'a> {
-    contract: &'a str,
+    contract_id: &'a str,
     currency: &'a str,
-    status: Day,
-    initial_exchange: Day,
-    maturity: Day,
-    notional: Fixed,
-    rate: Fixed,
+    status_date: Day,
+    initial_exchange_date: Day,
+    maturity_date: Day,
+    notional_principal: Fixed,
+    nominal_interest_rate: Fixed,
+}
+
+impl<'a> Model for Terms<'a> {
+    ghost use Rattle.act_top.specs.Terms.{LoanTerms};
+
+    ghost Value = { LoanTerms };
+
+    ghost view = { λ t. record { contract_id = t.contract_id.now; currency = t.currency.now; status_date = t.status_date; initial_exchange_date = t.initial_exchange_date; maturity_date = t.maturity_date; notional_principal = t.notional_principal; nominal_interest_rate = t.nominal_interest_rate } };
 }
 
 impl Terms<'_> {
     /// The loan with these terms.
-    fn to_loan(&self, alloc: Global) -> Result<Loan, AllocError> {
+    fn to_loan(&self, alloc: Global) -> Result<Loan, AllocError>
+        ensures { IfOk result (λ loan. loan ≡ self.now) }
+    {
         Ok(Loan {
-            contract: String::from_str(alloc, self.contract)?,
+            contract_id: String::from_str(alloc, self.contract_id)?,
             currency: String::from_str(alloc, self.currency)?,
-            status: self.status,
-            initial_exchange: self.initial_exchange,
-            maturity: self.maturity,
-            notional: self.notional,
-            rate: self.rate,
+            status_date: self.status_date,
+            initial_exchange_date: self.initial_exchange_date,
+            maturity_date: self.maturity_date,
+            notional_principal: self.notional_principal,
+            nominal_interest_rate: self.nominal_interest_rate,
         })
+    }
+
+    /// They are in the bounds of a plain loan.
+    fn are_plain(&self) -> bool
+        ensures { result ≡ is_plain self.now }
+    {
+        is_name(self.contract_id, MOST_NAME)
+            && self.contract_id != "*"
+            && is_name(self.currency, MOST_CURRENCY)
+            && are_in_order(
+                self.status_date,
+                self.initial_exchange_date,
+                self.maturity_date,
+            )
+            && are_in_bounds(self.notional_principal, self.nominal_interest_rate)
     }
 }
 
-/// The terms of a plain loan: an object of just its eleven names, each with a text of its form.
-fn plain_terms(contract: &Value) -> Option<Terms<'_>> {
+/// The terms of a plain loan: an object of just its eleven terms, each with a text of its form.
+#[tactic(auto, using(crate::proofs::Readings::members_len_view), unfolding(crate::specs::Portfolio::plain_loan))]
+fn plain_terms(contract: &Value) -> Option<Terms<'_>>
+    ensures { result ≡ plain_loan (view contract.now) }
+{
     let object = contract.as_object()?;
-    if object.len() != TERMS || !has_plain_terms(object) {
+    if object.len() != TERMS || !has_fixed_terms(contract) {
         return None;
     }
-    let contract = text(object, "contractID")?;
-    let currency = text(object, "currency")?;
-    let status = day(object, "statusDate")?;
-    let initial_exchange = day(object, "initialExchangeDate")?;
-    let maturity = day(object, "maturityDate")?;
-    let notional = decimal(object, "notionalPrincipal")?;
-    let rate = decimal(object, "nominalInterestRate")?;
-    let is_plain = is_name(contract, MOST_NAME)
-        && contract != "*"
-        && is_name(currency, MOST_CURRENCY)
-        && are_in_order(status, initial_exchange, maturity)
-        && (0..=MOST_NOTIONAL).contains(&notional.units())
-        && (-MOST_RATE..=MOST_RATE).contains(&rate.units());
-    is_plain.then_some(Terms {
-        contract,
-        currency,
-        status,
-        initial_exchange,
-        maturity,
-        notional,
-        rate,
+    let terms = written_terms(contract)?;
+    if terms.are_plain() { Some(terms) } else { None }
+}
+
+/// The four terms that a plain loan has with one value only are there with it.
+#[tactic(auto, unfolding(crate::specs::Portfolio::has_fixed_terms))]
+fn has_fixed_terms(contract: &Value) -> bool
+    ensures { result ≡ has_fixed_terms (view contract.now) }
+{
+    has_text(contract, "contractType", "PAM")
+        && has_text(contract, "contractRole", "RPA")
+        && has_text(contract, "dayCountConvention", "30E360")
+        && has_text(contract, "cycleOfInterestPayment", "P1YL1")
+}
+
+/// The other seven terms, or None where one of them is missing or has another form.
+#[tactic(auto, unfolding(crate::specs::Portfolio::terms_of))]
+fn written_terms(contract: &Value) -> Option<Terms<'_>>
+    ensures { result ≡ terms_of (view contract.now) }
+{
+    Some(Terms {
+        contract_id: text(contract, "contractID")?,
+        currency: text(contract, "currency")?,
+        status_date: day(contract, "statusDate")?,
+        initial_exchange_date: day(contract, "initialExchangeDate")?,
+        maturity_date: day(contract, "maturityDate")?,
+        notional_principal: decimal(contract, "notionalPrincipal")?,
+        nominal_interest_rate: decimal(contract, "nominalInterestRate")?,
     })
 }
 
-/// The terms that allow one value are there with it.
-fn has_plain_terms(object: &Map<String, Value>) -> bool {
-    text(object, "contractType") == Some("PAM")
-        && text(object, "contractRole") == Some("RPA")
-        && text(object, "dayCountConvention") == Some("30E360")
-        && text(object, "cycleOfInterestPayment") == Some("P1YL1")
-}
-
-/// The three days stand in this order, at most a hundred years apart and before the last year.
-fn are_in_order(status: Day, initial_exchange: Day, maturity: Day) -> bool {
-    status < initial_exchange
-        && initial_exchange < maturity
-        && maturity.number() - initial_exchange.number() <= MOST_DAYS
-        && maturity.number() < LAST_YEAR
+/// Whether a term has this text.
+fn has_text(contract: &Value, name: &str, wanted: &str) -> bool
+    ensures { result ≡ is_text wanted.now (text_at name.now (view contract.now)) }
+{
+    text(contract, name) == Some(wanted)
 }
 
 /// The text of a term.
-fn text<'a>(object: &'a Map<String, Value>, name: &str) -> Option<&'a str> {
-    object.get(name)?.as_str()
+#[tactic(auto, unfolding(crate::specs::Portfolio::text_at))]
+fn text<'a>(contract: &'a Value, name: &str) -> Option<&'a str>
+    ensures { option_map (λ s. s.now) result ≡ text_at name.now (view contract.now) }
+{
+    contract.get(name)?.as_str()
 }
 
 /// The day of a term.
-fn day(object: &Map<String, Value>, name: &str) -> Option<Day> {
-    parse_day(text(object, name)?.as_bytes()).ok()
+#[tactic(auto, unfolding(crate::specs::Portfolio::day_at))]
+fn day(contract: &Value, name: &str) -> Option<Day>
+    ensures { result ≡ day_at name.now (view contract.now) }
+{
+    parse_day(text(contract, name)?.as_bytes()).ok()
 }
 
 /// The number of a term.
-fn decimal(object: &Map<String, Value>, name: &str) -> Option<Fixed> {
-    Fixed::parse(text(object, name)?.as_bytes()).ok()
+#[tactic(auto, unfolding(crate::specs::Portfolio::decimal_at))]
+fn decimal(contract: &Value, name: &str) -> Option<Fixed>
+    ensures { result ≡ decimal_at name.now (view contract.now) }
+{
+    Fixed::parse(text(contract, name)?.as_bytes()).ok()
+}
+
+/// The three days stand in this order, and maturity is in time.
+#[tactic(auto, unfolding(crate::specs::Portfolio::days_in_order))]
+fn are_in_order(status: Day, initial_exchange: Day, maturity: Day) -> bool
+    ensures { result ≡ days_in_order status initial_exchange maturity }
+{
+    status < initial_exchange
+        && initial_exchange < maturity
+        && ends_in_time(initial_exchange, maturity)
+}
+
+/// Maturity is at most a hundred years after initial exchange, and before the last year.
+#[tactic(auto, unfolding(crate::specs::Portfolio::ends_in_time))]
+fn ends_in_time(initial_exchange: Day, maturity: Day) -> bool
+    ensures { result ≡ ends_in_time initial_exchange maturity }
+{
+    maturity.number() - initial_exchange.number() <= MOST_DAYS && maturity.number() < LAST_YEAR
+}
+
+/// The notional and the rate are in their bounds.
+#[tactic(auto, unfolding(crate::specs::Portfolio::amounts_in_bounds))]
+fn are_in_bounds(notional: Fixed, rate: Fixed) -> bool
+    ensures { result ≡ amounts_in_bounds notional rate }
+{
+    (0..=MOST_NOTIONAL).contains(&notional.units())
+        && (-MOST_RATE..=MOST_RATE).contains(&rate.units())
 }
 
 /// Printable ASCII characters without space, from one up to so many.
-fn is_name(text: &str, most: usize) -> bool {
-    (1..=most).contains(&text.len()) && text.bytes().all(|byte| (0x21..=0x7e).contains(&byte))
+#[tactic(auto, unfolding(crate::specs::Portfolio::is_name))]
+fn is_name(text: &str, most: usize) -> bool
+    ensures { result ≡ is_name most text.now }
+{
+    (1..=most).contains(&text.len()) && are_graphic(text.as_bytes())
+}
+
+/// Whether all bytes are printable ASCII characters other than a space.
+fn are_graphic(bytes: &[u8]) -> bool
+    ensures { result ≡ list_all is_graphic bytes.now }
+{
+    bytes.iter().all(|byte| byte.is_ascii_graphic())
 }

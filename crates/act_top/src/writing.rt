@@ -1,4 +1,12 @@
 //! Lines of text, and writing them.
+ghost use Rattle.std.specs.Prelude.{◌≡◌, ◌≤◌, ◌∷◌, ◌++◌, [], Err, OnOk, codes};
+ghost use Rattle.act_num.specs.Decimal.{printed};
+ghost use Rattle.act_date.specs.Text.{date_text};
+ghost use Rattle.act_io.specs.Faults.{Rose};
+ghost use Rattle.act_io.specs.Put.{written_after};
+ghost use Rattle.act_io.specs.declared.sink.PutFault.TheVariants.{Failed};
+ghost use Rattle.act_top.specs.Text.{line_of, row_text, type_text};
+
 use crate::loan::{Event, EventType, Row};
 use act_date::Day;
 use act_io::{PutFault, Sink};
@@ -6,7 +14,12 @@ use act_num::Fixed;
 use std::alloc::AllocError;
 
 /// Writes a line whole, or stops at a fault.
-pub fn write_line<K: Sink>(out: &mut K, line: &[u8]) -> Result<(), PutFault> {
+#[tactic(auto, using(crate::proofs::Written::writing_steps))]
+pub fn write_line<K: Sink>(out: &mut K, line: &[u8]) -> Result<(), PutFault>
+    ensures ok { OnOk result (K.written out.new ≡ written_after (K.written out.old) line.now) }
+    ensures failed { result ≡ Err Failed → Rose (K.faults out.old) (K.faults out.new) }
+    ensures count { K.faults out.old ≤ K.faults out.new }
+{
     let mut rest = line;
     'pieces: while !rest.is_empty() {
         let taken = out.put(rest)?;
@@ -17,7 +30,10 @@ pub fn write_line<K: Sink>(out: &mut K, line: &[u8]) -> Result<(), PutFault> {
 
 /// The line of a row: day, type, currency, payoff, and of the state after it the notional, the rate and the
 /// interest accrued.
-pub fn row_line(line: &mut Vec<u8>, row: &Row, currency: &str) -> Result<(), AllocError> {
+#[tactic(auto, unfolding(crate::specs::Text::row_text))]
+pub fn row_line(line: &mut Vec<u8>, row: &Row, currency: &str) -> Result<(), AllocError>
+    ensures { OnOk result (line.new.items ≡ line.old.items ++ row_text currency.now row.now) }
+{
     push_day(line, row.event.day)?;
     push_word(line, kind_word(row.event.kind))?;
     push_word(line, currency.as_bytes())?;
@@ -30,7 +46,10 @@ pub fn row_line(line: &mut Vec<u8>, row: &Row, currency: &str) -> Result<(), All
 }
 
 /// The line of an event at which a formula is undefined.
-pub fn overflow_line(line: &mut Vec<u8>, event: Event) -> Result<(), AllocError> {
+pub fn overflow_line(line: &mut Vec<u8>, event: Event) -> Result<(), AllocError>
+    ensures { OnOk result (line.new.items
+        ≡ line.old.items ++ line_of (codes "overflow") (date_text event.day ∷ type_text event.kind ∷ [])) }
+{
     line.extend_from_slice(b"overflow ")?;
     push_day(line, event.day)?;
     push_word(line, kind_word(event.kind))?;
@@ -39,27 +58,35 @@ pub fn overflow_line(line: &mut Vec<u8>, event: Event) -> Result<(), AllocError>
 }
 
 /// Adds a day.
-fn push_day(line: &mut Vec<u8>, day: Day) -> Result<(), AllocError> {
+fn push_day(line: &mut Vec<u8>, day: Day) -> Result<(), AllocError>
+    ensures { OnOk result (line.new.items ≡ line.old.items ++ date_text day) }
+{
     let mut text = [0; 10];
     day.write(&mut text);
     line.extend_from_slice(&text)
 }
 
 /// Adds a space and a number.
-fn push_number(line: &mut Vec<u8>, number: Fixed) -> Result<(), AllocError> {
+fn push_number(line: &mut Vec<u8>, number: Fixed) -> Result<(), AllocError>
+    ensures { OnOk result (line.new.items ≡ line.old.items ++ codes " " ++ printed number) }
+{
     let mut text = [0; 48];
     let length = number.write(&mut text);
     push_word(line, &text[..length])
 }
 
 /// Adds a space and a word.
-fn push_word(line: &mut Vec<u8>, word: &[u8]) -> Result<(), AllocError> {
+fn push_word(line: &mut Vec<u8>, word: &[u8]) -> Result<(), AllocError>
+    ensures { OnOk result (line.new.items ≡ line.old.items ++ codes " " ++ word.now) }
+{
     line.push(b' ')?;
     line.extend_from_slice(word)
 }
 
 /// The word of an event type.
-fn kind_word(kind: EventType) -> &'static [u8] {
+fn kind_word(kind: EventType) -> &'static [u8]
+    ensures { result.now ≡ type_text kind }
+{
     match kind {
         EventType::Ied => b"IED",
         EventType::Ip => b"IP",
