@@ -6,18 +6,18 @@ use Rattle.act_date.specs.declared.cycle.Unit.TheVariants as unit
 use Rattle.act_date.specs.Civil.{Civil, day_in_range, civil_of, day_number, month_length}
 
 -- what a cycle's units come to: days, or months
-pub data Step : Type 0 where
-  days : ℕ → Step
-  months : ℕ → Step
+pub data Span : Type 0 where
+  days : ℕ → Span
+  months : ℕ → Span
 
 -- n units
-abbrev pub step_of : Unit → ℕ → Step
-step_of unit.D n = days n
-step_of unit.W n = days (7 * n)
-step_of unit.M n = months n
-step_of unit.Q n = months (3 * n)
-step_of unit.H n = months (6 * n)
-step_of unit.Y n = months (12 * n)
+abbrev pub span_of : Unit → ℕ → Span
+span_of unit.D n = days n
+span_of unit.W n = days (7 * n)
+span_of unit.M n = months n
+span_of unit.Q n = months (3 * n)
+span_of unit.H n = months (6 * n)
+span_of unit.Y n = months (12 * n)
 
 -- the date n months later: the same day of the month, or the last day of a shorter month
 abbrev pub months_later : Civil → ℕ → Civil
@@ -29,14 +29,14 @@ months_later date n =
 abbrev pub day_number_in_range : Civil → Option ℤ
 day_number_in_range date = if nat_le date.year 2299 then Some (day_number date) else None
 
--- the day after a step, where it is a day of the engine
-abbrev pub day_after : ℤ → Step → Option ℤ
+-- the day after a span, where it is a day of the engine
+abbrev pub day_after : ℤ → Span → Option ℤ
 day_after day (days n) = day_in_range (day +ℤ pos n)
 day_after day (months n) = day_number_in_range (months_later (civil_of day) n)
 
 -- the day that k cycles lead to, counted from the day
 unfoldable pub plus_cycles : ℤ → Cycle → ℕ → Option ℤ
-plus_cycles day cycle k = day_after day (step_of cycle.unit (cycle.count * k))
+plus_cycles day cycle k = day_after day (span_of cycle.unit (cycle.count * k))
 
 -- a later day, or past 2299; what comes after a day past 2299 is past it too
 abbrev pub ComesAfter : Option ℤ → Option ℤ → Type 0

@@ -1,6 +1,6 @@
 //! Cycles.
 ghost use Rattle.std.specs.Prelude.{◌≡◌, ℕ, ◌^◌, ◌<◌};
-ghost use Rattle.act_date.specs.Cycle.{ComesAfter, plus_cycles, day_after, days, months, step_of};
+ghost use Rattle.act_date.specs.Cycle.{ComesAfter, plus_cycles, day_after, days, months, span_of};
 
 use crate::Day;
 use jiff::ToSpan;
@@ -78,7 +78,7 @@ pub fn add_cycles(day: Day, cycle: Cycle, k: u32) -> Option<Day>
 /// The day so many units later, or None past 2299.
 fn add_units(day: Day, unit: Unit, count: u64) -> Option<Day>
     requires { count < 2 ^ 48 }
-    ensures { result ≡ day_after day (step_of unit count) }
+    ensures { result ≡ day_after day (span_of unit count) }
 {
     match unit {
         Unit::D => add_days(day, count),

@@ -92,46 +92,50 @@ const NOT_CYCLES: [&str; 24] = [
 ];
 
 /// Days, cycles and how many of them, with the day that they lead to, by `datetime` and by hand.
-const SUMS: [(&str, &str, u32, Option<&str>); 34] = [
-    ("2020-01-31", "P1M", 0, Some("2020-01-31")),
-    ("2020-01-31", "P1M", 1, Some("2020-02-29")),
-    ("2020-01-31", "P1M", 2, Some("2020-03-31")),
-    ("2019-01-30", "P1M", 1, Some("2019-02-28")),
-    ("2020-02-29", "P1M", 1, Some("2020-03-29")),
-    ("2020-02-29", "P1Y", 1, Some("2021-02-28")),
-    ("2020-02-29", "P1Y", 4, Some("2024-02-29")),
-    ("2000-02-29", "P1Y", 1, Some("2001-02-28")),
-    ("2000-02-29", "P1Y", 4, Some("2004-02-29")),
-    ("2000-02-29", "P1Y", 100, Some("2100-02-28")),
-    ("2000-02-29", "P100Y", 2, Some("2200-02-28")),
-    ("1900-01-31", "P1M", 1, Some("1900-02-28")),
-    ("2020-11-30", "P1Q", 1, Some("2021-02-28")),
-    ("2020-11-30", "P3Q", 2, Some("2022-05-30")),
-    ("2020-08-31", "P1H", 1, Some("2021-02-28")),
-    ("2020-08-31", "P1H", 2, Some("2021-08-31")),
-    ("2020-12-31", "P2W", 1, Some("2021-01-14")),
-    ("2020-02-22", "P1W", 1, Some("2020-02-29")),
-    ("2020-02-28", "P1D", 2, Some("2020-03-01")),
-    ("1900-01-01", "P999D", 146, Some("2299-05-03")),
-    ("1900-01-01", "P999D", 147, None),
-    ("2020-01-31", "P1Y", 279, Some("2299-01-31")),
-    ("2298-12-31", "P1Y", 1, Some("2299-12-31")),
-    ("2299-11-30", "P1M", 1, Some("2299-12-30")),
-    ("2299-12-01", "P1M", 1, None),
-    ("2299-12-01", "P30D", 1, Some("2299-12-31")),
-    ("2299-12-01", "P31D", 1, None),
-    ("2299-12-24", "P1W", 1, Some("2299-12-31")),
-    ("2299-12-25", "P1W", 1, None),
-    ("2299-09-30", "P1Q", 1, Some("2299-12-30")),
-    ("2299-10-01", "P1Q", 1, None),
-    ("2299-12-31", "P999Y", 0, Some("2299-12-31")),
-    ("2299-12-31", "P999Y", u32::MAX, None),
-    ("1900-01-01", "P999W", u32::MAX, None),
+const SUMS: [(&str, &str, u32, &str); 27] = [
+    ("2020-01-31", "P1M", 0, "2020-01-31"),
+    ("2020-01-31", "P1M", 1, "2020-02-29"),
+    ("2020-01-31", "P1M", 2, "2020-03-31"),
+    ("2019-01-30", "P1M", 1, "2019-02-28"),
+    ("2020-02-29", "P1M", 1, "2020-03-29"),
+    ("2020-02-29", "P1Y", 1, "2021-02-28"),
+    ("2020-02-29", "P1Y", 4, "2024-02-29"),
+    ("2000-02-29", "P1Y", 1, "2001-02-28"),
+    ("2000-02-29", "P1Y", 4, "2004-02-29"),
+    ("2000-02-29", "P1Y", 100, "2100-02-28"),
+    ("2000-02-29", "P100Y", 2, "2200-02-28"),
+    ("1900-01-31", "P1M", 1, "1900-02-28"),
+    ("2020-11-30", "P1Q", 1, "2021-02-28"),
+    ("2020-11-30", "P3Q", 2, "2022-05-30"),
+    ("2020-08-31", "P1H", 1, "2021-02-28"),
+    ("2020-08-31", "P1H", 2, "2021-08-31"),
+    ("2020-12-31", "P2W", 1, "2021-01-14"),
+    ("2020-02-22", "P1W", 1, "2020-02-29"),
+    ("2020-02-28", "P1D", 2, "2020-03-01"),
+    ("1900-01-01", "P999D", 146, "2299-05-03"),
+    ("2020-01-31", "P1Y", 279, "2299-01-31"),
+    ("2298-12-31", "P1Y", 1, "2299-12-31"),
+    ("2299-11-30", "P1M", 1, "2299-12-30"),
+    ("2299-12-01", "P30D", 1, "2299-12-31"),
+    ("2299-12-24", "P1W", 1, "2299-12-31"),
+    ("2299-09-30", "P1Q", 1, "2299-12-30"),
+    ("2299-12-31", "P999Y", 0, "2299-12-31"),
+];
+
+/// Days, cycles and how many of them, where they lead past 2299.
+const PAST_2299: [(&str, &str, u32); 7] = [
+    ("1900-01-01", "P999D", 147),
+    ("2299-12-01", "P1M", 1),
+    ("2299-12-01", "P31D", 1),
+    ("2299-12-25", "P1W", 1),
+    ("2299-10-01", "P1Q", 1),
+    ("2299-12-31", "P999Y", u32::MAX),
+    ("1900-01-01", "P999W", u32::MAX),
 ];
 
 /// Two days, with the fraction of the year between them. Days are counted one by one by `datetime`: 366 for
 /// one in a common year and 365 in a leap year under AA. Those of 30E360 are worked out by hand.
-const FRACTIONS: [(DayCount, &str, &str, i64, i64); 27] = [
+const FRACTIONS: [(DayCount, &str, &str, i64, i64); 29] = [
     (DayCount::Aa, "2019-12-15", "2020-01-15", 11_332, 133_590),
     (DayCount::Aa, "2020-12-31", "2021-01-02", 731, 133_590),
     (DayCount::Aa, "1900-02-28", "1900-03-01", 366, 133_590),
@@ -171,6 +175,8 @@ const FRACTIONS: [(DayCount, &str, &str, i64, i64); 27] = [
     (DayCount::E30, "2020-01-15", "2020-01-15", 0, 360),
     (DayCount::E30, "2020-03-31", "2020-02-29", 0, 360),
     (DayCount::E30, "1900-01-01", "2299-12-31", 143_999, 360),
+    (DayCount::E30Isda, "2020-08-31", "2021-02-28", 180, 360),
+    (DayCount::E30Isda, "2020-02-29", "2020-03-31", 30, 360),
 ];
 
 /// Two days, with how many of 360 days lie between them under 30E360ISDA, and how many where the second one
@@ -211,103 +217,116 @@ fn day(rt: &impl Abort, text: &str) -> Day {
 
 #[test]
 fn reads_and_writes_days(rt: HostRuntime) {
-    for (text, number, end, of_week) in DAYS {
+    for &(text, number, end, of_week) in &DAYS {
         let read = day(&rt, text);
         let mut written = [0; 10];
         read.write(&mut written);
-        assert_eq!(rt; read.number(), number, "{text}");
         assert!(rt; written.as_slice() == text.as_bytes(), "{text}");
+        assert_eq!(rt; (read.number(), weekday(read)), (number, of_week), "{text}");
         assert_eq!(rt; month_end(read), day(&rt, end), "{text}");
-        assert_eq!(rt; weekday(read), of_week, "{text}");
         assert_eq!(rt; is_business(read, Calendar::Mf), of_week <= 5, "{text}");
-        assert!(rt; is_business(read, Calendar::Nc), "{text}");
     }
+    assert!(rt;
+        is_business(day(&rt, "2020-10-31"), Calendar::Nc),
+        "every day"
+    );
     assert_eq!(rt; day(&rt, "2020-01-01T00:00:00"), day(&rt, "2020-01-01"));
     assert_eq!(rt; civil(day(&rt, "2020-02-29")), (2020, 2, 29));
 }
 
 #[test]
 fn refuses_days(rt: HostRuntime) {
-    for (text, want) in DAY_FAULTS {
+    for &(text, want) in &DAY_FAULTS {
         assert_eq!(rt; parse_day(text.as_bytes()), Err(want), "{text}");
     }
 }
 
 #[test]
 fn reads_cycles(rt: HostRuntime) {
-    for (text, count, unit, stub) in CYCLES {
+    for &(text, count, unit, stub) in &CYCLES {
         let want = Cycle { count, unit, stub };
         assert_eq!(rt; parse_cycle(text.as_bytes()), Ok(want), "{text}");
         assert_eq!(rt; parse_period(text.as_bytes()), Ok(want), "{text}");
     }
-    for (text, unit, stub) in EMPTY_PERIODS {
+    for &(text, unit, stub) in &EMPTY_PERIODS {
         let count = 0;
         let want = Cycle { count, unit, stub };
-        assert_eq!(rt;
-            parse_cycle(text.as_bytes()),
-            Err(CycleFault::NotCycle),
-            "{text}"
-        );
         assert_eq!(rt; parse_period(text.as_bytes()), Ok(want), "{text}");
-    }
-    for text in NOT_CYCLES {
-        assert_eq!(rt;
-            parse_cycle(text.as_bytes()),
-            Err(CycleFault::NotCycle),
-            "{text}"
-        );
-        assert_eq!(rt;
-            parse_period(text.as_bytes()),
-            Err(CycleFault::NotCycle),
+        assert!(rt;
+            parse_cycle(text.as_bytes()) == Err(CycleFault::NotCycle),
             "{text}"
         );
     }
+    for &text in &NOT_CYCLES {
+        assert!(rt;
+            parse_cycle(text.as_bytes()) == Err(CycleFault::NotCycle),
+            "{text}"
+        );
+        assert!(rt;
+            parse_period(text.as_bytes()) == Err(CycleFault::NotCycle),
+            "{text}"
+        );
+    }
+}
+
+/// The day so many cycles later.
+fn later(rt: &impl Abort, from: &str, cycle: &str, times: u32) -> Option<Day> {
+    let cycle = parse_cycle(cycle.as_bytes()).expect(rt, "a cycle");
+    add_cycles(day(rt, from), cycle, times)
 }
 
 #[test]
 fn adds_cycles(rt: HostRuntime) {
-    for (from, cycle, times, want) in SUMS {
-        let cycle = parse_cycle(cycle.as_bytes()).expect(&rt, "a cycle");
-        let sum = add_cycles(day(&rt, from), cycle, times);
-        match want {
-            Some(want) => assert_eq!(rt; sum, Some(day(&rt, want)), "{from} {times}"),
-            None => assert_eq!(rt; sum, None, "{from} {times}"),
-        }
+    for &(from, cycle, times, want) in &SUMS {
+        assert_eq!(rt;
+            later(&rt, from, cycle, times),
+            Some(day(&rt, want)),
+            "{from} {times}"
+        );
     }
+    for &(from, cycle, times) in &PAST_2299 {
+        assert_eq!(rt; later(&rt, from, cycle, times), None, "{from} {times}");
+    }
+}
+
+/// The numerator and the denominator of the fraction between two days.
+fn fraction(
+    rt: &impl Abort,
+    count: DayCount,
+    calendar: Calendar,
+    first: &str,
+    second: &str,
+    maturity: Option<&str>,
+) -> (i64, i64) {
+    let maturity = match maturity {
+        Some(text) => Some(day(rt, text)),
+        None => None,
+    };
+    let fraction = year_frac(count, calendar, day(rt, first), day(rt, second), maturity);
+    (fraction.num, fraction.den)
 }
 
 #[test]
 fn counts_fractions(rt: HostRuntime) {
-    for (count, first, second, num, den) in FRACTIONS {
-        let fraction = year_frac(count, Calendar::Mf, day(&rt, first), day(&rt, second), None);
+    let (nc, mf) = (Calendar::Nc, Calendar::Mf);
+    for &(count, first, second, num, den) in &FRACTIONS {
+        let counted = fraction(&rt, count, mf, first, second, None);
+        assert_eq!(rt; counted, (num, den), "{first} {second}");
+    }
+    for &(first, second, num, num_to_maturity) in &ISDA_DAYS {
+        let counted = fraction(&rt, DayCount::E30Isda, nc, first, second, Some(first));
+        assert_eq!(rt; counted, (num, 360), "{first} {second}");
+        let counted = fraction(&rt, DayCount::E30Isda, nc, first, second, Some(second));
         assert_eq!(rt;
-            (fraction.num, fraction.den),
-            (num, den),
-            "{first} {second}"
+            counted,
+            (num_to_maturity, 360),
+            "{first} {second}, the maturity date"
         );
     }
-    for (first, second, num, num_to_maturity) in ISDA_DAYS {
-        let (s, t) = (day(&rt, first), day(&rt, second));
-        let count = DayCount::E30Isda;
-        let plain = year_frac(count, Calendar::Nc, s, t, None);
-        let to_maturity = year_frac(count, Calendar::Nc, s, t, Some(t));
-        assert_eq!(rt; (plain.num, plain.den), (num, 360), "{first} {second}");
-        assert_eq!(rt; to_maturity.num, num_to_maturity, "{first} {second}");
-        assert_eq!(rt;
-            year_frac(count, Calendar::Nc, s, t, Some(s)),
-            plain,
-            "{first}"
-        );
-    }
-    for (first, second, every_day, weekdays) in BUSINESS_DAYS {
-        let (s, t) = (day(&rt, first), day(&rt, second));
-        let all = year_frac(DayCount::B252, Calendar::Nc, s, t, None);
-        let business = year_frac(DayCount::B252, Calendar::Mf, s, t, None);
-        assert_eq!(rt; (all.num, all.den), (every_day, 252), "{first} {second}");
-        assert_eq!(rt;
-            (business.num, business.den),
-            (weekdays, 252),
-            "{first} {second}"
-        );
+    for &(first, second, every_day, weekdays) in &BUSINESS_DAYS {
+        let counted = fraction(&rt, DayCount::B252, nc, first, second, None);
+        assert_eq!(rt; counted, (every_day, 252), "{first} {second}");
+        let counted = fraction(&rt, DayCount::B252, mf, first, second, None);
+        assert_eq!(rt; counted, (weekdays, 252), "{first} {second}");
     }
 }

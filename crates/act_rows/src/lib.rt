@@ -2,10 +2,16 @@
 #![tactic(auto)]
 
 #[cfg(test)]
+mod annuity;
+#[cfg(test)]
+mod calendar;
+#[cfg(test)]
 mod date;
 #[cfg(test)]
 mod io;
 #[cfg(test)]
 mod num;
+#[cfg(test)]
+mod sched;
 #[cfg(test)]
 mod top;

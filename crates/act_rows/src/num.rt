@@ -311,7 +311,7 @@ fn factor(rt: &impl Abort, units: i128) -> Factor {
 
 #[test]
 fn rounds(rt: HostRuntime) {
-    for (dividend, divisor, want) in QUOTIENTS {
+    for &(dividend, divisor, want) in &QUOTIENTS {
         assert!(rt; divisor > 0 && dividend != i128::MIN);
         assert_eq!(rt; rnd(dividend, divisor), want, "{dividend}/{divisor}");
     }
@@ -319,12 +319,12 @@ fn rounds(rt: HostRuntime) {
 
 #[test]
 fn adds_and_bounds(rt: HostRuntime) {
-    for (a, b, sum, difference) in SUMS {
+    for &(a, b, sum, difference) in &SUMS {
         let (x, y) = (number(&rt, a), number(&rt, b));
         assert_eq!(rt; x.add(y).map(Fixed::units), sum, "{a} + {b}");
         assert_eq!(rt; x.sub(y).map(Fixed::units), difference, "{a} - {b}");
     }
-    for (units, lo, hi, want) in CLIPPED {
+    for &(units, lo, hi, want) in &CLIPPED {
         let lo = lo.and_then(Fixed::from_units);
         let hi = hi.and_then(Fixed::from_units);
         assert_eq!(rt; number(&rt, units).clip(lo, hi).units(), want, "{units}");
@@ -339,16 +339,16 @@ fn adds_and_bounds(rt: HostRuntime) {
 
 #[test]
 fn multiplies_and_divides(rt: HostRuntime) {
-    for (a, b, want) in PRODUCTS {
+    for &(a, b, want) in &PRODUCTS {
         let product = number(&rt, a).mul(number(&rt, b));
         assert_eq!(rt; product.map(Fixed::units), want, "{a} * {b}");
     }
-    for (a, b, num, den, want) in FRACTIONS {
+    for &(a, b, num, den, want) in &FRACTIONS {
         assert!(rt; num >= 0 && den >= 1 && den <= 133_590);
         let product = number(&rt, a).mul_frac(number(&rt, b), num, den);
         assert_eq!(rt; product.map(Fixed::units), want, "{a} * {b} * {num}/{den}");
     }
-    for (a, b, want) in RATIOS {
+    for &(a, b, want) in &RATIOS {
         let ratio = number(&rt, a).ratio(number(&rt, b));
         assert_eq!(rt; ratio.map(Fixed::units), want, "{a} / {b}");
     }
@@ -356,12 +356,12 @@ fn multiplies_and_divides(rt: HostRuntime) {
 
 #[test]
 fn makes_and_multiplies_factors(rt: HostRuntime) {
-    for (rate, num, den, want) in RATES {
+    for &(rate, num, den, want) in &RATES {
         assert!(rt; num >= 0 && den >= 1 && den <= 133_590);
         let factor = Factor::one_plus(number(&rt, rate), num, den);
         assert_eq!(rt; factor.map(Factor::units), want, "{rate} * {num}/{den}");
     }
-    for (a, b, want) in FACTORS {
+    for &(a, b, want) in &FACTORS {
         let product = factor(&rt, a).times(factor(&rt, b));
         assert_eq!(rt; product.map(Factor::units), want, "{a} * {b}");
     }
@@ -369,15 +369,15 @@ fn makes_and_multiplies_factors(rt: HostRuntime) {
 
 #[test]
 fn reads_decimals(rt: HostRuntime) {
-    for (text, want) in DECIMALS {
+    for &(text, want) in &DECIMALS {
         let read = Fixed::parse(text.as_bytes()).map(Fixed::units);
         assert_eq!(rt; read, Ok(want), "{text}");
     }
-    for text in TOO_LARGE {
+    for &text in &TOO_LARGE {
         let read = Fixed::parse(text.as_bytes());
         assert_eq!(rt; read, Err(DecimalFault::TooLarge), "{text}");
     }
-    for text in NOT_DECIMALS {
+    for &text in &NOT_DECIMALS {
         let read = Fixed::parse(text.as_bytes());
         assert_eq!(rt; read, Err(DecimalFault::NotDecimal), "{text}");
     }
@@ -385,7 +385,7 @@ fn reads_decimals(rt: HostRuntime) {
 
 #[test]
 fn writes_decimals(rt: HostRuntime) {
-    for (units, want) in WRITTEN {
+    for &(units, want) in &WRITTEN {
         let mut out = [0; 48];
         let length = number(&rt, units).write(&mut out);
         let text = &out[..length];

@@ -175,7 +175,7 @@ fn changed(alloc: Global, from: &str, to: &str) -> Result<String, Fail> {
 #[test]
 fn evaluates_portfolios(rt: HostRuntime) -> Result<(), Fail> {
     let alloc = rt.alloc();
-    for (portfolio, want, text) in WHOLE {
+    for &(portfolio, want, text) in &WHOLE {
         let mut out = MemSink::new(alloc, Vec::new(alloc));
         let status = status(alloc, &["eval", "p1.json"], portfolio.as_bytes(), &mut out)?;
         assert_eq!(rt; status, want, "{portfolio}");
@@ -187,7 +187,7 @@ fn evaluates_portfolios(rt: HostRuntime) -> Result<(), Fail> {
 #[test]
 fn evaluates_changed_portfolios(rt: HostRuntime) -> Result<(), Fail> {
     let alloc = rt.alloc();
-    for (from, to, want, text) in CHANGES {
+    for &(from, to, want, text) in &CHANGES {
         let portfolio = changed(alloc, from, to)?;
         let mut out = MemSink::new(alloc, Vec::new(alloc));
         let status = status(alloc, &["eval", "p1.json"], portfolio.as_bytes(), &mut out)?;

@@ -1,0 +1,6 @@
+//! Annuities: the payment that redeems what is owed, if it is paid on each of some days.
+#![tactic(auto)]
+
+mod annuity;
+
+pub use annuity::payment;

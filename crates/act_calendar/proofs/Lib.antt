@@ -1,0 +1,3 @@
+pub mod Weekdays
+pub mod Months
+pub mod Shifts

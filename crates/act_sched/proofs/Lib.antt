@@ -1,0 +1,4 @@
+pub mod Rising
+pub mod CycleDates
+pub mod DatesBefore
+pub mod Members

@@ -1,0 +1,6 @@
+//! Schedules: the dates on which something recurs, up to an end.
+#![tactic(auto)]
+
+mod schedule;
+
+pub use schedule::{SchedFault, dates};
