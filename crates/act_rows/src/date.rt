@@ -28,7 +28,7 @@ const DAYS: [(&str, i32, &str, u8); 18] = [
     ("2299-12-31", 120_529, "2299-12-31", 7),
 ];
 
-/// Texts that write no day, with the first fault.
+/// Texts that write no day, with the first fault, by hand.
 const DAY_FAULTS: [(&str, DateFault); 33] = [
     ("", DateFault::NotDate),
     ("2020-02-30", DateFault::NotDate),
@@ -65,8 +65,7 @@ const DAY_FAULTS: [(&str, DateFault); 33] = [
     ("9999-12-31", DateFault::DateRange),
 ];
 
-/// Texts of cycles, with the count, the unit and the stub, by the form `P`, one to three digits, a letter, and
-/// `L0`, `L1` or nothing.
+/// Texts of cycles, with the count, the unit and the stub, by hand.
 const CYCLES: [(&str, u16, Unit, Stub); 8] = [
     ("P1Y", 1, Unit::Y, Stub::Short),
     ("P1YL1", 1, Unit::Y, Stub::Short),
@@ -78,20 +77,21 @@ const CYCLES: [(&str, u16, Unit, Stub); 8] = [
     ("P06HL0", 6, Unit::H, Stub::Long),
 ];
 
-/// Texts of periods that are empty, and so of no cycle.
+/// Texts of empty periods, which are no cycles, with the unit and the stub, by hand.
 const EMPTY_PERIODS: [(&str, Unit, Stub); 3] = [
     ("P0D", Unit::D, Stub::Short),
     ("P000WL0", Unit::W, Stub::Long),
     ("P00YL1", Unit::Y, Stub::Short),
 ];
 
-/// Texts of no period.
+/// Texts that are neither a cycle nor a period, by hand.
 const NOT_CYCLES: [&str; 24] = [
     "", "P", "P1", "PY", "P1000D", "P0001D", "p1Y", "P1y", "1Y", "PP1Y", "P-1Y", "P+1Y", "P1.5Y",
     "P 1Y", "P1YL", "P1YL2", "P1Yl1", "P1YL10", "P1Y1", "P1Y ", " P1Y", "P1YM", "PT1H", "P1X",
 ];
 
-/// Days, cycles and how many of them, with the day that they lead to, by `datetime` and by hand.
+/// Days, cycles and how many of them, with the day that they lead to, by Python's `datetime` and `divmod` of the
+/// months by 12.
 const SUMS: [(&str, &str, u32, &str); 27] = [
     ("2020-01-31", "P1M", 0, "2020-01-31"),
     ("2020-01-31", "P1M", 1, "2020-02-29"),
@@ -122,19 +122,22 @@ const SUMS: [(&str, &str, u32, &str); 27] = [
     ("2299-12-31", "P999Y", 0, "2299-12-31"),
 ];
 
-/// Days, cycles and how many of them, where they lead past 2299.
-const PAST_2299: [(&str, &str, u32); 7] = [
+/// Days, cycles and how many of them that lead past 2299, by the same.
+const PAST_2299: [(&str, &str, u32); 9] = [
     ("1900-01-01", "P999D", 147),
     ("2299-12-01", "P1M", 1),
     ("2299-12-01", "P31D", 1),
     ("2299-12-25", "P1W", 1),
     ("2299-10-01", "P1Q", 1),
+    ("2299-12-31", "P1D", 1),
+    ("2299-12-31", "P1M", 1),
     ("2299-12-31", "P999Y", u32::MAX),
     ("1900-01-01", "P999W", u32::MAX),
 ];
 
-/// Two days, with the fraction of the year between them. Days are counted one by one by `datetime`: 366 for
-/// one in a common year and 365 in a leap year under AA. Those of 30E360 are worked out by hand.
+/// Two days, with the fraction of a year between them, by Python's `datetime`: under AA a sum of 366 for each
+/// day in a common year and 365 for each in a leap year, and otherwise from the difference of the two days or
+/// of their years, months and days.
 const FRACTIONS: [(DayCount, &str, &str, i64, i64); 29] = [
     (DayCount::Aa, "2019-12-15", "2020-01-15", 11_332, 133_590),
     (DayCount::Aa, "2020-12-31", "2021-01-02", 731, 133_590),
@@ -180,7 +183,7 @@ const FRACTIONS: [(DayCount, &str, &str, i64, i64); 29] = [
 ];
 
 /// Two days, with how many of 360 days lie between them under 30E360ISDA, and how many where the second one
-/// is the maturity date, by hand.
+/// is the maturity date, from their years, months and days.
 const ISDA_DAYS: [(&str, &str, i64, i64); 12] = [
     ("2020-08-31", "2021-02-28", 180, 178),
     ("2020-02-29", "2020-03-31", 30, 30),
@@ -196,8 +199,8 @@ const ISDA_DAYS: [(&str, &str, i64, i64); 12] = [
     ("2021-03-01", "2021-02-28", 0, 0),
 ];
 
-/// Two days, with how many business days of the calendars Nc and Mf lie between them, counted one by one by
-/// `datetime`.
+/// Two days, with how many business days of the calendars Nc and Mf lie between them, counted one by one with
+/// Python's `isoweekday`.
 const BUSINESS_DAYS: [(&str, &str, i64, i64); 10] = [
     ("2020-10-30", "2020-11-02", 3, 1),
     ("2020-10-31", "2020-11-02", 2, 0),

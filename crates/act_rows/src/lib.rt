@@ -15,3 +15,5 @@ mod num;
 mod sched;
 #[cfg(test)]
 mod top;
+#[cfg(test)]
+mod turn;

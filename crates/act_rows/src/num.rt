@@ -1,6 +1,5 @@
-//! Rows of `act_num`. The wanted numbers are Python's: exact fractions, `round`, which takes the even one of
-//! two whole numbers that are as near, and None where a product or sum on the way has more than 2^127 - 1
-//! units.
+//! Rows of `act_num`. Python's fractions are exact, and its `round` takes the even one of two whole numbers
+//! that are as near. None stands where a product or a sum on the way has more than 2^127 - 1 units.
 ghost use Rattle.std.specs.Prelude.{◌≡◌, ◌<◌};
 
 use act_num::{DecimalFault, Factor, Fixed, Steps, rnd};
@@ -26,7 +25,7 @@ const FACTOR_ONE: i128 = 1_000_000_000_000;
 /// The most units that stay in range where they are multiplied by 1000.
 const THOUSANDTH: i128 = 170_141_183_460_469_231_731_687_303_715_884_105;
 
-/// Dividends and divisors, with the nearest whole number.
+/// Dividends and divisors, with the nearest whole number, by Python's `round` of a fraction.
 const QUOTIENTS: [(i128, i128, i128); 23] = [
     (1, 2, 0),
     (3, 2, 2),
@@ -53,7 +52,7 @@ const QUOTIENTS: [(i128, i128, i128); 23] = [
     (-HALF, LARGEST, -1),
 ];
 
-/// Units of two numbers, with those of the sum and of the difference.
+/// Units of two numbers, with those of the sum and of the difference, by Python's whole numbers.
 const SUMS: [(i128, i128, Option<i128>, Option<i128>); 9] = [
     (3, -5, Some(-2), Some(8)),
     (LARGEST, 1, None, Some(LARGEST - 1)),
@@ -66,7 +65,7 @@ const SUMS: [(i128, i128, Option<i128>, Option<i128>); 9] = [
     (-HALF, HALF, Some(0), None),
 ];
 
-/// Units of a number, of a lower and an upper bound, and of the number between them.
+/// Units of a number, of a lower and an upper bound, and of the number between them, by hand.
 const CLIPPED: [(i128, Option<i128>, Option<i128>, i128); 7] = [
     (5, None, None, 5),
     (1, Some(3), None, 3),
@@ -77,7 +76,7 @@ const CLIPPED: [(i128, Option<i128>, Option<i128>, i128); 7] = [
     (1, Some(3), Some(3), 3),
 ];
 
-/// Units of two numbers, with those of the product.
+/// Units of two numbers, with those of the product, by Python's `fractions`.
 const PRODUCTS: [(i128, i128, Option<i128>); 16] = [
     (1, 500_000_000, Some(0)),
     (3, 500_000_000, Some(2)),
@@ -97,7 +96,7 @@ const PRODUCTS: [(i128, i128, Option<i128>); 16] = [
     (LARGEST, ONE, None),
 ];
 
-/// Units of two numbers and a fraction, with those of the product of the three.
+/// Units of two numbers and a fraction, with those of the product of the three, by Python's `fractions`.
 const FRACTIONS: [(i128, i128, i64, i64, Option<i128>); 18] = [
     (1000 * ONE, 50_000_000, 11_332, 133_590, Some(4_241_335_429)),
     (1000 * ONE, 50_000_000, 178, 360, Some(24_722_222_222)),
@@ -119,7 +118,7 @@ const FRACTIONS: [(i128, i128, i64, i64, Option<i128>); 18] = [
     (LARGEST, ONE, 0, 360, None),
 ];
 
-/// Units of two numbers, with those of the ratio.
+/// Units of two numbers, with those of the ratio, by Python's `fractions`.
 const RATIOS: [(i128, i128, Option<i128>); 27] = [
     (1, 500_000_000, Some(2)),
     (1, -500_000_000, Some(-2)),
@@ -150,7 +149,8 @@ const RATIOS: [(i128, i128, Option<i128>); 27] = [
     (3, 0, None),
 ];
 
-/// Units of a rate and a fraction of a year, with those of the factor that they make.
+/// Units of a rate and a fraction of a year, with those of the factor that they make, by Python's
+/// `fractions`.
 const RATES: [(i128, i64, i64, Option<i128>); 20] = [
     (50_000_000, 90, 360, Some(1_012_500_000_000)),
     (50_000_000, 11_332, 133_590, Some(1_004_241_335_429)),
@@ -174,7 +174,7 @@ const RATES: [(i128, i64, i64, Option<i128>); 20] = [
     (THOUSANDTH - ONE + 1, 1, 1, None),
 ];
 
-/// Units of two factors, with those of the product.
+/// Units of two factors, with those of the product, by Python's `fractions`.
 const FACTORS: [(i128, i128, Option<i128>); 15] = [
     (
         1_012_500_000_000,
@@ -205,7 +205,7 @@ const FACTORS: [(i128, i128, Option<i128>); 15] = [
     (-(1 << 64), 1 << 63, None),
 ];
 
-/// Texts, with the units of the numbers that they write. The values come from Python's `decimal`.
+/// Texts, with the units of the numbers that they write, by Python's `decimal` and `round`.
 const DECIMALS: [(&str, i128); 29] = [
     ("1", 1_000_000_000),
     ("+1000", 1_000_000_000_000),
@@ -244,7 +244,7 @@ const DECIMALS: [(&str, i128); 29] = [
     ("170141183460469231731687303715.8841057274999", LARGEST),
 ];
 
-/// Texts of numbers that are out of range once rounded.
+/// Texts of numbers that are out of range once rounded, by the same.
 const TOO_LARGE: [&str; 7] = [
     "170141183460469231731687303715.8841057275",
     "-170141183460469231731687303715.8841057275",
@@ -255,7 +255,7 @@ const TOO_LARGE: [&str; 7] = [
     "9999999999999999999999999999999999999999999999999999999999999999",
 ];
 
-/// Texts of another form than a decimal's, the last two for their 65 bytes.
+/// Texts of another form than a decimal's, the last two for their 65 bytes, by a regular expression.
 const NOT_DECIMALS: [&str; 26] = [
     "",
     "-",
@@ -285,7 +285,7 @@ const NOT_DECIMALS: [&str; 26] = [
     "00000000000000000000000000000000000000000000000000000000000000001",
 ];
 
-/// Units, with the text of the number.
+/// Units, with the text of the number, by Python's `divmod`.
 const WRITTEN: [(i128, &str); 9] = [
     (0, "0.000000000"),
     (5, "0.000000005"),

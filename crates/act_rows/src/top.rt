@@ -208,7 +208,7 @@ fn refuses_words_and_files(rt: HostRuntime) -> Result<(), Fail> {
         (&["--help"], Status::Words, usage),
         (&["eval", "p2.json"], Status::ReadFault, "read p2.json\n"),
     ];
-    for (words, want, text) in cases {
+    for &(words, want, text) in &cases {
         let mut out = MemSink::new(alloc, Vec::new(alloc));
         let status = status(alloc, words, P1.as_bytes(), &mut out)?;
         assert_eq!(rt; status, want, "{text}");

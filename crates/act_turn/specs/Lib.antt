@@ -1,0 +1,4 @@
+pub mod Journal
+pub mod Standing
+pub mod Steps
+pub mod Turn
