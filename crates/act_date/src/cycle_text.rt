@@ -1,5 +1,5 @@
 //! Cycles and periods as text.
-ghost use Rattle.std.specs.Prelude.{◌≡◌};
+ghost use Rattle.std.specs.Prelude.{◌≡◌, ◌≤◌, IfOk};
 ghost use Rattle.std.specs.List.{prefix_len};
 ghost use Rattle.std.specs.Char.{is_ascii_digit};
 ghost use Rattle.act_date.specs.CycleText.{cycle_of, period_of, stub_of, unit_of, written_period};
@@ -14,7 +14,8 @@ const MOST_DIGITS: usize = 3;
 /// `L0` for a long last stub, `L1` or nothing for a short one. Any other text is a fault.
 #[tactic(auto, unfolding(crate::specs::CycleText::cycle_of))]
 pub fn parse_cycle(text: &[u8]) -> Result<Cycle, CycleFault>
-    ensures { result ≡ cycle_of text.now }
+    ensures value { result ≡ cycle_of text.now }
+    ensures count { IfOk result (λ cycle. 1 ≤ cycle.count) }
 {
     match written_period(text) {
         Some(cycle) if cycle.count >= 1 => Ok(cycle),

@@ -1,4 +1,4 @@
-//! Worked rows as tests, a module for each crate that they are of.
+//! Worked rows as tests, a module for each crate that they are of: numbers and time, the turn, the outside, the commands.
 #![tactic(auto)]
 
 #[cfg(test)]

@@ -3,7 +3,7 @@ ghost use Rattle.std.specs.Prelude.{◌≤◌};
 ghost use Rattle.std.specs.Option.{ForSome};
 
 use act_date::{Cycle, Day, MonthRule, parse_cycle, parse_day};
-use act_sched::{SchedFault, dates};
+use act_sched::{SchedFault, dates, dates_after};
 use std::alloc::Global;
 use std::process::Abort;
 use std::test::Fail;
@@ -221,6 +221,14 @@ const LENGTHS: [(&str, &str, Option<usize>); 4] = [
     ("2299-12-30", "2299-12-31", Some(2)),
 ];
 
+/// Days, with how many dates of the daily schedule from 1900 to 2299 are after them, or None of too many.
+const LATER: [(&str, Option<usize>); 4] = [
+    ("2299-12-31", Some(0)),
+    ("2299-12-29", Some(2)),
+    ("2288-10-13", Some(4096)),
+    ("2288-10-12", None),
+];
+
 fn day(rt: &impl Abort, text: &str) -> Day {
     parse_day(text.as_bytes()).expect(rt, "a day")
 }
@@ -230,8 +238,8 @@ fn cycle(text: &str) -> Option<Cycle>
     ensures { ForSome result (λ c. 1 ≤ c.count) }
 {
     match parse_cycle(text.as_bytes()) {
-        Ok(cycle) if cycle.count > 0 => Some(cycle),
-        _ => None,
+        Ok(cycle) => Some(cycle),
+        Err(_) => None,
     }
 }
 
@@ -273,6 +281,21 @@ fn counts_dates(rt: HostRuntime) {
         match want {
             Some(count) => assert_eq!(rt; list.expect(&rt, "dates").len(), count, "{end}"),
             None => assert_eq!(rt; list.err(), Some(SchedFault::TooManyDates), "{end}"),
+        }
+    }
+}
+
+#[test]
+fn counts_later_dates(rt: HostRuntime) {
+    let alloc = rt.alloc();
+    let (first, last) = (day(&rt, "1900-01-01"), day(&rt, "2299-12-31"));
+    let daily = cycle("P1D");
+    for &(after, want) in &LATER {
+        let after = day(&rt, after);
+        let list = dates_after(alloc, Some(first), daily, last, MonthRule::Sd, Some(after));
+        match want {
+            Some(count) => assert_eq!(rt; list.expect(&rt, "dates").len(), count),
+            None => assert_eq!(rt; list.err(), Some(SchedFault::TooManyDates)),
         }
     }
 }

@@ -2,3 +2,4 @@ pub mod Rising
 pub mod CycleDates
 pub mod DatesBefore
 pub mod Members
+pub mod Counts

@@ -1,5 +1,6 @@
 -- Schedules: the dates that a cycle leads to from an anchor, up to an end. ACTUS schedules; the edges are this profile's own.
 use Rattle.std.specs.Prelude.{◌≡◌, ℕ, zero, suc, ◌-◌, ◌<◌, max, ◌&&◌, not, if◌then◌else◌, Bool, true, false, ℤ, ◌-ℤ◌, ◌<ℤ◌, ◌≤ℤ◌, unsigned_abs, int_le, int_lt, List, [], ◌∷◌, ◌++◌, length, take, Option, Some, None, ◌⊎◌}
+use Rattle.std.specs.List.{filter}
 use Rattle.std.specs.Option.{option_map}
 use Rattle.std.specs.Ordering.{int_eq}
 use Rattle.act_date.specs.Civil.{month_end_of}
@@ -73,6 +74,11 @@ earlier_dates anchor (Some cycle) end rule =
 unfoldable pub schedule_dates : Option ℤ → Option Cycle → ℤ → MonthRule → List ℤ
 schedule_dates None cycle end rule = []
 schedule_dates (Some anchor) cycle end rule = if int_le anchor end then earlier_dates anchor cycle end rule ++ end ∷ [] else []
+
+-- the dates after a day, where one is given
+abbrev pub later_dates : Option ℤ → List ℤ → List ℤ
+later_dates None dates = dates
+later_dates (Some day) dates = filter (λ d. int_lt day d) dates
 
 -- ---- which days are dates of a schedule
 

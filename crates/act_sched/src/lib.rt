@@ -3,4 +3,4 @@
 
 mod schedule;
 
-pub use schedule::{SchedFault, dates};
+pub use schedule::{SchedFault, dates, dates_after};

@@ -1,8 +1,8 @@
 //! The dates of a schedule.
 ghost use Rattle.std.specs.Prelude.{◌≡◌, ◌<◌, ◌≤◌, ◌↔◌, ℤ, int_lt, ◌<ℤ◌, ◌≤ℤ◌, [], ◌∷◌, ◌++◌, length, if◌then◌else◌, IfOk, IfErr};
-ghost use Rattle.std.specs.List.{AllPairs, Contains};
+ghost use Rattle.std.specs.List.{AllPairs, Contains, filter};
 ghost use Rattle.std.specs.Option.{ForSome};
-ghost use Rattle.act_sched.specs.Schedule.{IsScheduleDate, cycle_date, dates_before, earlier_dates, is_in_months, is_long_stub, keeps_month_ends, schedule_dates};
+ghost use Rattle.act_sched.specs.Schedule.{IsScheduleDate, cycle_date, dates_before, earlier_dates, later_dates, is_in_months, is_long_stub, keeps_month_ends, schedule_dates};
 ghost use Rattle.act_sched.specs.declared.schedule.SchedFault.TheVariants.{NoMemory};
 
 use act_date::{Cycle, Day, MonthRule, Stub, Unit, add_cycles, month_end};
@@ -28,6 +28,9 @@ impl<T: Drop> From<AllocFailed<T>> for SchedFault {
 /// The most dates that a schedule may have.
 const MOST_DATES: u32 = 4_096;
 
+/// The days from 1900 to 2299, of which all dates are.
+const MOST_DAYS: u32 = 146_097;
+
 /// The dates of a schedule, ascending, each day once. With no anchor, or one after the end, there are none,
 /// and with no cycle they are the anchor and the end. Else they are the dates of the cycle before the end,
 /// and the end. The dates of the cycle are counted from the anchor and moved by the rule; the end isn't
@@ -35,7 +38,6 @@ const MOST_DATES: u32 = 4_096;
 /// that is the anchor.
 ///
 /// `TooManyDates` comes exactly where there are more than 4,096 dates, unless memory runs out first.
-#[tactic(auto, unfolding(crate::specs::Schedule::schedule_dates))]
 pub fn dates(
     alloc: Global,
     anchor: Option<Day>,
@@ -52,8 +54,83 @@ pub fn dates(
         4096 < length (schedule_dates anchor cycle end rule) }
     ensures within_limit { IfOk result (λ dates. length dates.items ≤ 4096) }
 {
+    limited_dates(alloc, anchor, cycle, end, rule, MOST_DATES)
+}
+
+/// The dates of a schedule after a day, ascending, each day once; all of them where no day is given.
+///
+/// `TooManyDates` comes exactly where there are more than 4,096 of these, unless memory runs out first: those
+/// that aren't after the day don't count.
+pub fn dates_after(
+    alloc: Global,
+    anchor: Option<Day>,
+    cycle: Option<Cycle>,
+    end: Day,
+    rule: MonthRule,
+    after: Option<Day>,
+) -> Result<Vec<Day>, SchedFault>
+    requires { ForSome cycle (λ c. 1 ≤ c.count) }
+    ensures list { IfOk result (λ dates. dates.items ≡ later_dates after (schedule_dates anchor cycle end rule)) }
+    ensures too_many { result ≡ Err SchedFault.TooManyDates →
+        4096 < length (later_dates after (schedule_dates anchor cycle end rule)) }
+    ensures within_limit { IfOk result (λ dates. length dates.items ≤ 4096) }
+{
+    let Some(after) = after else {
+        return limited_dates(alloc, anchor, cycle, end, rule, MOST_DATES);
+    };
+    let mut dates = all_dates(alloc, anchor, cycle, end, rule)?;
+    keep_after(&mut dates, after);
+    if dates.len() > MOST_DATES as usize {
+        return Err(SchedFault::TooManyDates);
+    }
+    Ok(dates)
+}
+
+/// Keeps the dates after a day.
+fn keep_after(dates: &mut Vec<Day>, day: Day)
+    ensures { dates.new.items ≡ filter (λ d. int_lt day d) dates.old.items }
+{
+    dates.retain(|date| day < *date);
+}
+
+/// The dates of a schedule, however many there are.
+fn all_dates(
+    alloc: Global,
+    anchor: Option<Day>,
+    cycle: Option<Cycle>,
+    end: Day,
+    rule: MonthRule,
+) -> Result<Vec<Day>, SchedFault>
+    requires { ForSome cycle (λ c. 1 ≤ c.count) }
+    ensures list { IfOk result (λ dates. dates.items ≡ schedule_dates anchor cycle end rule) }
+    ensures no_memory { IfErr result (λ fault. fault ≡ NoMemory) }
+{
+    limited_dates(alloc, anchor, cycle, end, rule, MOST_DAYS)
+}
+
+/// The dates of a schedule, where there are no more than a limit.
+#[tactic(auto, unfolding(crate::specs::Schedule::schedule_dates))]
+fn limited_dates(
+    alloc: Global,
+    anchor: Option<Day>,
+    cycle: Option<Cycle>,
+    end: Day,
+    rule: MonthRule,
+    limit: u32,
+) -> Result<Vec<Day>, SchedFault>
+    requires some { ForSome cycle (λ c. 1 ≤ c.count) }
+    requires within { limit ≤ 146_097 }
+    ensures list { IfOk result (λ dates. dates.items ≡ schedule_dates anchor cycle end rule) }
+    ensures members { IfOk result (λ dates. (day : ℤ) →
+        Contains dates.items day ↔ IsScheduleDate anchor cycle end rule day) }
+    ensures ascending { IfOk result (λ dates. AllPairs (λ earlier later. earlier <ℤ later) dates.items) }
+    ensures too_many { result ≡ Err SchedFault.TooManyDates →
+        limit < length (schedule_dates anchor cycle end rule) }
+    ensures within_limit { IfOk result (λ dates. length dates.items ≤ limit) }
+    ensures few { length (schedule_dates anchor cycle end rule) ≤ 146_097 }
+{
     match anchor {
-        Some(anchor) if anchor <= end => dates_from(alloc, anchor, cycle, end, rule),
+        Some(anchor) if anchor <= end => dates_from(alloc, anchor, cycle, end, rule, limit),
         _ => Ok(Vec::new(alloc)),
     }
 }
@@ -65,15 +142,17 @@ fn dates_from(
     cycle: Option<Cycle>,
     end: Day,
     rule: MonthRule,
+    limit: u32,
 ) -> Result<Vec<Day>, SchedFault>
-    requires { ForSome cycle (λ c. 1 ≤ c.count) }
+    requires some { ForSome cycle (λ c. 1 ≤ c.count) }
+    requires within { limit ≤ 146_097 }
     ensures list { IfOk result (λ dates. dates.items ≡ earlier_dates anchor cycle end rule ++ end ∷ []) }
     ensures too_many { result ≡ Err SchedFault.TooManyDates →
-        4096 ≤ length (earlier_dates anchor cycle end rule) }
-    ensures within_limit { IfOk result (λ dates. length dates.items ≤ 4096) }
+        limit ≤ length (earlier_dates anchor cycle end rule) }
+    ensures within_limit { IfOk result (λ dates. length dates.items ≤ limit) }
 {
-    let mut dates = earlier_dates(alloc, anchor, cycle, end, rule)?;
-    if dates.len() >= MOST_DATES as usize {
+    let mut dates = earlier_dates(alloc, anchor, cycle, end, rule, limit)?;
+    if dates.len() >= limit as usize {
         return Err(SchedFault::TooManyDates);
     }
     dates.push(end)?;
@@ -87,14 +166,16 @@ fn earlier_dates(
     cycle: Option<Cycle>,
     end: Day,
     rule: MonthRule,
+    limit: u32,
 ) -> Result<Vec<Day>, SchedFault>
-    requires { ForSome cycle (λ c. 1 ≤ c.count) }
+    requires some { ForSome cycle (λ c. 1 ≤ c.count) }
+    requires within { limit ≤ 146_097 }
     ensures list { IfOk result (λ dates. dates.items ≡ earlier_dates anchor cycle end rule) }
     ensures too_many { result ≡ Err SchedFault.TooManyDates →
-        4096 ≤ length (earlier_dates anchor cycle end rule) }
+        limit ≤ length (earlier_dates anchor cycle end rule) }
 {
     match cycle {
-        Some(cycle) => cycle_dates(alloc, anchor, cycle, end, rule),
+        Some(cycle) => cycle_dates(alloc, anchor, cycle, end, rule, limit),
         None => anchor_before(alloc, anchor, end),
     }
 }
@@ -118,13 +199,15 @@ fn cycle_dates(
     cycle: Cycle,
     end: Day,
     rule: MonthRule,
+    limit: u32,
 ) -> Result<Vec<Day>, SchedFault>
-    requires { 1 ≤ cycle.count }
+    requires some { 1 ≤ cycle.count }
+    requires within { limit ≤ 146_097 }
     ensures list { IfOk result (λ dates. dates.items ≡ earlier_dates anchor (Some cycle) end rule) }
     ensures too_many { result ≡ Err SchedFault.TooManyDates →
-        4096 ≤ length (earlier_dates anchor (Some cycle) end rule) }
+        limit ≤ length (earlier_dates anchor (Some cycle) end rule) }
 {
-    let mut dates = dates_before(alloc, anchor, cycle, end, rule)?;
+    let mut dates = dates_before(alloc, anchor, cycle, end, rule, limit)?;
     let next = cycle_date(anchor, cycle, rule, dates.len() as u32);
     if dates.len() > 1 && is_long_stub(cycle.stub, next, end) {
         dates.pop();
@@ -139,16 +222,18 @@ fn dates_before(
     cycle: Cycle,
     end: Day,
     rule: MonthRule,
+    limit: u32,
 ) -> Result<Vec<Day>, SchedFault>
-    requires { 1 ≤ cycle.count }
+    requires some { 1 ≤ cycle.count }
+    requires within { limit ≤ 146_097 }
     ensures list { IfOk result (λ dates. dates.items ≡ dates_before anchor cycle end rule) }
     ensures too_many { result ≡ Err SchedFault.TooManyDates →
-        4096 < length (dates_before anchor cycle end rule) }
-    ensures within_limit { IfOk result (λ dates. length dates.items ≤ 4096) }
+        limit < length (dates_before anchor cycle end rule) }
+    ensures within_limit { IfOk result (λ dates. length dates.items ≤ limit) }
 {
     let mut dates = Vec::new(alloc);
     // One more than the limit is too many: a long stub leaves out one of them, and the end comes on top.
-    'cycles: for k in 0..=MOST_DATES {
+    'cycles: for k in 0..limit + 1 {
         match cycle_date(anchor, cycle, rule, k) {
             Some(date) if date < end => dates.push(date)?,
             _ => return Ok(dates),

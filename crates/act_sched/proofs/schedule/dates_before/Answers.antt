@@ -18,10 +18,10 @@ returns-in_default-clause-list c =
       | in_default-via-in_default w ↦ absurd (none-some x (sym w.in_default.is ∙ c.cycle_date.ensures ∙ is))
     ]) in
     let all : AreBefore days c.args.end c.cycles.dates.items = record { begins = c.cycles.invariant.begins; next = next } in
-    same days c.args.end _ _ all (dates_before-are c.args.anchor c.args.cycle c.args.end c.args.rule (search rules) c.requires)
+    same days c.args.end _ _ all (dates_before-are c.args.anchor c.args.cycle c.args.end c.args.rule (search rules) c.requires.some)
 
 pub returns-clause-too_many : goal.returns-clause-too_many
 returns-clause-too_many c = λ _.
-    let all = dates_before-are c.args.anchor c.args.cycle c.args.end c.args.rule (search rules) c.requires in
+    let all = dates_before-are c.args.anchor c.args.cycle c.args.end c.args.rule (search rules) c.requires.some in
     let less = shorter (cycle_date c.args.anchor c.args.cycle c.args.rule) c.args.end _ _ c.cycles.invariant.begins all in
     omega arith

@@ -1,0 +1,5 @@
+pub mod Draws
+pub mod Json
+pub mod Members
+pub mod Portfolio
+pub mod Script

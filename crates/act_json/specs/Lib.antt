@@ -1,0 +1,4 @@
+pub mod Fields
+pub mod Quoting
+pub mod Reading
+pub mod Results

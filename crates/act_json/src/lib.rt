@@ -1,0 +1,13 @@
+//! Typed fields of JSON objects. Numbers are read as texts: a quoting pass puts bare numbers in quotes, and the
+//! result is what `serde_json` reads.
+#![tactic(auto)]
+
+mod fault;
+mod fields;
+mod quoting;
+mod reading;
+
+pub use fault::JsonFault;
+pub use fields::{cycle, day, decimal, period, required, text, word};
+pub use quoting::quote;
+pub use reading::read;

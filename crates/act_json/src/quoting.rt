@@ -1,0 +1,124 @@
+//! The quoting pass: bare numbers of a JSON text are put in quotes, so that they are read as texts.
+ghost use Rattle.std.specs.Prelude.{◌≡◌, ◌<◌, ◌≤◌, ◌++◌, length, take, drop, slice_index, true, IfOk};
+ghost use Rattle.std.specs.List.{prefix_len};
+ghost use Rattle.act_json.specs.Quoting.{is_number_byte, piece_len, quoted, quoted_piece, starts_number, string_len};
+
+use act_num::NoMemory;
+use std::alloc::{AllocError, Global};
+
+/// The bytes with each bare number in quotes: what stands inside strings is copied, and outside them each run
+/// of the bytes of numbers, as long as it can be, that starts with a digit or a minus sign is quoted. In a
+/// string a backslash and the byte behind it belong together.
+pub fn quote(alloc: Global, bytes: &[u8]) -> Result<Vec<u8>, NoMemory>
+    ensures { IfOk result (λ text. text.items ≡ quoted bytes.now) }
+{
+    quoted_text(alloc, bytes).map_err(|_| NoMemory)
+}
+
+/// The bytes with each bare number in quotes.
+fn quoted_text(alloc: Global, bytes: &[u8]) -> Result<Vec<u8>, AllocError>
+    ensures { IfOk result (λ text. text.items ≡ quoted bytes.now) }
+{
+    let mut text = Vec::with_capacity(alloc, bytes.len() + bytes.len() / 8)?;
+    let mut rest = bytes;
+    'stretches: while !rest.is_empty() {
+        let (between, behind) = rest.split_at(len_before_number(rest));
+        let (number, behind) = behind.split_at(number_len(behind));
+        text.extend_from_slice(between)?;
+        push_number(&mut text, number)?;
+        rest = behind;
+    }
+    Ok(text)
+}
+
+/// Puts a number in quotes behind the text, or nothing where it is empty.
+fn push_number(text: &mut Vec<u8>, number: &[u8]) -> Result<(), AllocError>
+    requires { 0 < length number.now → starts_number (slice_index number.now 0) ≡ true }
+    ensures { IfOk result (λ _. text.new.items ≡ text.old.items ++ quoted_piece number.now) }
+{
+    if number.is_empty() {
+        return Ok(());
+    }
+    text.push(b'"')?;
+    text.extend_from_slice(number)?;
+    text.push(b'"')?;
+    Ok(())
+}
+
+/// How many bytes stand before the first number outside strings, or how many there are where there is none.
+fn len_before_number(text: &[u8]) -> usize
+    ensures within { result ≤ length text.now }
+    ensures copied { quoted text.now ≡ take result text.now ++ quoted (drop result text.now) }
+    ensures number { let behind = drop result text.now in
+        0 < length behind → starts_number (slice_index behind 0) ≡ true }
+{
+    let mut len = 0;
+    'pieces: while len < text.len() && !is_number_start(text[len]) {
+        len += piece_len(&text[len..]);
+    }
+    len
+}
+
+/// The length of the piece that a text begins with: a string, a run of the bytes of numbers as long as it can
+/// be, or one other byte.
+fn piece_len(text: &[u8]) -> usize
+    ensures length { result ≡ piece_len text.now }
+    ensures within { result ≤ length text.now }
+    ensures goes_on { 0 < length text.now → 0 < result }
+{
+    let [first, rest @ ..] = text else {
+        return 0;
+    };
+    if *first == b'"' {
+        1 + string_len(rest)
+    } else if is_number_byte(*first) {
+        number_len(text)
+    } else {
+        1
+    }
+}
+
+/// The length of a string from behind its opening quote up to its closing one, or to the end of the text. A
+/// backslash and the byte behind it belong together.
+fn string_len(inside: &[u8]) -> usize
+    ensures length { result ≡ string_len inside.now }
+    ensures within { result ≤ length inside.now }
+{
+    let mut escaped = false;
+    for (place, byte) in inside.iter().enumerate() {
+        if escaped {
+            escaped = false;
+        } else if *byte == b'"' {
+            return place + 1;
+        } else {
+            escaped = *byte == b'\\';
+        }
+    }
+    inside.len()
+}
+
+/// How many bytes of numbers a text begins with.
+fn number_len(text: &[u8]) -> usize
+    ensures length { result ≡ prefix_len is_number_byte text.now }
+    ensures within { result ≤ length text.now }
+{
+    text.iter()
+        .take_while(|byte| is_number_byte(**byte))
+        .count()
+}
+
+/// A byte that numbers are written with.
+#[tactic(auto, unfolding(crate::specs::Quoting::is_number_byte))]
+fn is_number_byte(byte: u8) -> bool
+    ensures { result ≡ is_number_byte byte }
+{
+    is_number_start(byte) || matches!(byte, b'+' | b'.' | b'e' | b'E')
+}
+
+/// A byte that a number starts with.
+#[tactic(auto, unfolding(crate::specs::Quoting::starts_number))]
+fn is_number_start(byte: u8) -> bool
+    ensures { result ≡ starts_number byte }
+{
+    matches!(byte, b'0'..=b'9' | b'-')
+}

@@ -1,0 +1,7 @@
+pub mod InOrder
+pub mod Insertions
+pub mod PlannedEvents
+pub mod StableOrder
+pub mod TypesInTurn
+pub mod UpToEnd
+pub mod WithoutEnd

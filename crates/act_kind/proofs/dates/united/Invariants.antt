@@ -1,0 +1,9 @@
+use Rattle.std.proofs.Common.{◌≡◌, take}
+use Rattle.std.specs.List.{fold}
+use Rattle.std.specs.Prelude.{int_lt}
+use Rattle.act_profile.specs.Lists.{insert_once_by}
+use Rattle.act_kind.proofs.dates.united.Given as goal
+
+-- the dates so far are those of the first list and of the others up to here
+abbrev pub invariant-others : goal.invariant-others
+invariant-others l = l.dates.items ≡ fold (insert_once_by int_lt) l.initial.dates.items (take l.date-index l.others)

@@ -1,0 +1,16 @@
+//! What the code of all kinds of contracts shares: the sign of a role, the step of an event by the line of a table,
+//! and the events of planned dates.
+#![tactic(auto)]
+
+mod dates;
+mod memory;
+mod order;
+mod planned;
+mod sign;
+mod table;
+
+pub use dates::{latest_until, recurring, recurring_before, recurring_or_end_after, united};
+pub use order::{is_unpaid, order_law, put_in_order, retain_counting};
+pub use planned::{Planned, events_by_type, shifting, unshifted};
+pub use sign::{opposite, signed};
+pub use table::{Payment, Table, take_step};

@@ -1,0 +1,176 @@
+//! The step of an event, by the line that the table of its kind of contract has for it.
+ghost use Rattle.std.specs.Prelude.{◌≡◌, ◌+◌, Option, Ok, IfOk, IfErr, option_and_then};
+ghost use Rattle.act_kind.specs.Payment.{factor_code, payment_of, read_code};
+ghost use Rattle.act_model.specs.Observed.{observation};
+ghost use Rattle.act_model.specs.declared.event.Event.{Event};
+ghost use Rattle.act_model.specs.declared.state.State.{State};
+ghost use Rattle.act_profile.specs.Step.{StepLine, amount_of, change_code, outcome, reading, settled, state_after, step_by, unpaid};
+
+use act_date::Day;
+use act_model::{Event, Observed, State, Stop};
+use act_num::{Fixed, Steps};
+use std::sync::ledger::Ledger;
+
+/// What an event pays before the settlement factor.
+#[derive(Clone, Copy, Debug, PartialEq, Eq)]
+pub enum Payment {
+    /// Nothing: the table of steps writes 0.
+    Nothing,
+    /// An amount.
+    Amount,
+    /// An amount by the value of this code.
+    AmountBy(u32),
+}
+
+/// The table of steps of a contract, which has a line for each event.
+pub trait Table {
+    /// The line of an event.
+    ghost line: { Self → Event → StepLine };
+
+    /// The state that has accrued up to an event, where it is defined.
+    ghost accrual: { Self → Event → State → Option State };
+
+    /// What an event pays.
+    fn payment(&self, event: &Event) -> Payment
+        ensures { result ≡ payment_of (line self.now event.now).payoff };
+
+    /// The code that the state after an event is by.
+    fn change_code(&self, event: &Event) -> Option<u32>
+        ensures { result ≡ change_code (line self.now event.now).change };
+
+    /// The state that has accrued up to an event, or None where it is undefined.
+    fn accrued(&self, event: &Event, state: &State) -> Option<State>
+        ensures { result ≡ accrual self.now event.now state.now };
+
+    /// What an event pays, by the value of its code, or None where that is undefined.
+    fn payoff(&self, event: &Event, value: Option<Fixed>, state: &State) -> Option<Fixed>
+        ensures { result ≡ amount_of (line self.now event.now).payoff value state.now };
+
+    /// The state after an event, by the value of its code, or None where it is undefined.
+    fn state_after(&self, event: &Event, value: Option<Fixed>, state: &State) -> Option<State>
+        ensures { result ≡ state_after (line self.now event.now).change value state.now };
+}
+
+/// The step of an event: first its reads, the settlement factor before the others, and then what has accrued,
+/// what is paid and the state that is left. An event before a purchase pays nothing, and reads nothing for it.
+pub fn take_step<T: Table, O: Observed, L: Ledger>(
+    table: &T,
+    factor: Option<u32>,
+    is_unpaid: bool,
+    event: &Event,
+    state: &State,
+    seen: &O,
+    steps: &mut Steps<L>,
+) -> Result<(Fixed, State), Stop>
+    ensures value { result ≡ step_by (O.entries seen.now) factor event.now (T.accrual table.now event.now) (unpaid is_unpaid (T.line table.now event.now)) state.now }
+    ensures ticked { IfOk result (λ _. steps.new ≡ steps.old + 1) }
+    ensures unticked { IfErr result (λ _. steps.new ≡ steps.old) }
+{
+    let payment = payment_or_nothing(table, is_unpaid, event);
+    let factor = read(seen, event.day, payment.factor_code(factor))?;
+    let value = read(seen, event.day, payment.code())?;
+    let other = read(seen, event.day, table.change_code(event))?;
+    match outcome(table, is_unpaid, event, factor, value, other, state) {
+        Some(outcome) => {
+            steps.tick();
+            Ok(outcome)
+        }
+        None => Err(Stop::Overflow {
+            day: event.day,
+            kind: event.kind,
+        }),
+    }
+}
+
+/// What an event pays, which is nothing before a purchase.
+fn payment_or_nothing<T: Table>(table: &T, is_unpaid: bool, event: &Event) -> Payment
+    ensures { result ≡ payment_of (unpaid is_unpaid (T.line table.now event.now)).payoff }
+{
+    if is_unpaid {
+        Payment::Nothing
+    } else {
+        table.payment(event)
+    }
+}
+
+/// The payoff before the settlement factor, or None where it is undefined.
+fn amount<T: Table>(
+    table: &T,
+    is_unpaid: bool,
+    event: &Event,
+    value: Option<Fixed>,
+    state: &State,
+) -> Option<Fixed>
+    ensures { result ≡ amount_of (unpaid is_unpaid (T.line table.now event.now)).payoff value state.now }
+{
+    if is_unpaid {
+        Some(Fixed::ZERO)
+    } else {
+        table.payoff(event, value, state)
+    }
+}
+
+/// What is paid, and the state after the event, or None where one of them is undefined.
+fn outcome<T: Table>(
+    table: &T,
+    is_unpaid: bool,
+    event: &Event,
+    factor: Option<Fixed>,
+    value: Option<Fixed>,
+    other: Option<Fixed>,
+    state: &State,
+) -> Option<(Fixed, State)>
+    ensures { result ≡ option_and_then (outcome (unpaid is_unpaid (T.line table.now event.now)) factor value other)
+        (T.accrual table.now event.now state.now) }
+{
+    let state = table.accrued(event, state)?;
+    let amount = amount(table, is_unpaid, event, value, &state)?;
+    let payoff = settled(factor, amount)?;
+    let next = table.state_after(event, other, &state)?;
+    Some((payoff, next))
+}
+
+/// A payoff, multiplied with the settlement factor where there is one.
+fn settled(factor: Option<Fixed>, payoff: Fixed) -> Option<Fixed>
+    ensures { result ≡ settled factor payoff }
+{
+    match factor {
+        Some(factor) => factor.mul(payoff),
+        None => Some(payoff),
+    }
+}
+
+/// The value of a code on a day, where there is a code to read.
+fn read<O: Observed>(seen: &O, day: Day, code: Option<u32>) -> Result<Option<Fixed>, Stop>
+    ensures { result ≡ reading (O.entries seen.now) day code (λ value. Ok value) }
+{
+    let Some(code) = code else {
+        return Ok(None);
+    };
+    match seen.value(code, day) {
+        Some(value) => Ok(Some(value)),
+        None => Err(Stop::Missing { code, day }),
+    }
+}
+
+impl Payment {
+    /// The code that the payoff reads.
+    fn code(self) -> Option<u32>
+        ensures { result ≡ read_code self }
+    {
+        match self {
+            Payment::AmountBy(code) => Some(code),
+            _ => None,
+        }
+    }
+
+    /// The code of the settlement factor, where it is read.
+    fn factor_code(self, factor: Option<u32>) -> Option<u32>
+        ensures { result ≡ factor_code factor self }
+    {
+        match self {
+            Payment::Nothing => None,
+            _ => factor,
+        }
+    }
+}

@@ -1,0 +1,6 @@
+pub mod Redemptions
+pub mod ByPlace
+pub mod Latest
+pub mod Plans
+pub mod Types
+pub mod Contracts

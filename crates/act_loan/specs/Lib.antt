@@ -1,0 +1,4 @@
+pub mod Cycles
+pub mod Kinds
+pub mod Places
+pub mod Resets

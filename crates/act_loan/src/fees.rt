@@ -1,0 +1,32 @@
+//! Fees.
+ghost use Rattle.std.specs.Prelude.{◌≡◌, pos, None};
+ghost use Rattle.act_profile.specs.Loan.{fee_payoff};
+ghost use Rattle.act_profile.specs.States.{with_feac};
+ghost use Rattle.act_profile.specs.Step.{amount_of};
+
+use crate::terms::LoanTerms;
+use act_model::{FeeBasis, State};
+use act_num::Fixed;
+
+impl LoanTerms {
+    /// What FP pays: of basis A the amount, of basis N what has accrued.
+    pub(crate) fn fee_payoff(&self, state: &State) -> Option<Fixed>
+        ensures { result
+            ≡ amount_of (fee_payoff self.now self.now.loan.fee.fee_basis self.now.loan.fee.fee_rate) None state.now }
+    {
+        match self.loan.fee.fee_basis? {
+            FeeBasis::N => Some(state.feac),
+            FeeBasis::A => Some(self.own_sign(self.loan.fee.fee_rate?)),
+        }
+    }
+}
+
+/// The state after FP: no fee has accrued.
+pub(crate) fn without_fee(state: &State) -> State
+    ensures { result ≡ with_feac (pos 0) state.now }
+{
+    State {
+        feac: Fixed::ZERO,
+        ..*state
+    }
+}

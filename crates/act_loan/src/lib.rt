@@ -1,0 +1,27 @@
+//! Loans: what PAM, LAM, NAM and ANN have in common, and PAM in full.
+#![tactic(auto)]
+
+mod accrual;
+mod accrual_start;
+mod annuity;
+mod ending;
+mod exchange;
+mod fees;
+mod interest;
+mod pam;
+mod penalty;
+mod places;
+mod planning;
+mod redemption;
+mod reset;
+mod scaling;
+mod starting;
+mod steps;
+mod table;
+mod terms;
+
+pub use pam::{schedule, start, step};
+pub use reset::reset_rate;
+pub use steps::{start_loan, step_loan};
+pub use table::LoanTable;
+pub use terms::LoanTerms;

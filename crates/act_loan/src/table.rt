@@ -1,0 +1,111 @@
+//! The table of steps of a loan.
+use crate::ending::maturity_payoff;
+use crate::fees::without_fee;
+use crate::interest::{interest_payoff, with_base_fixed, without_interest};
+use crate::terms::LoanTerms;
+use act_kind::{Payment, Table};
+use act_model::{Event, EventType, Plan, State};
+use act_num::Fixed;
+use std::marker::Model;
+
+/// The table of steps of a loan that has a plan. Contracts see its terms and the plan.
+#[derive(Drop)]
+pub struct LoanTable<'a> {
+    terms: LoanTerms,
+    plan: &'a Plan,
+}
+
+impl<'a> Model for LoanTable<'a> {
+    ghost use Rattle.std.specs.Prelude.{◌≡◌};
+    ghost use Rattle.act_model.specs.Run.{EventPlan};
+    ghost use Rattle.act_profile.specs.LoanPlan.{parts_between};
+    ghost use Rattle.act_profile.specs.LoanTerms.{LoanTerms};
+
+    ghost Value = { LoanTerms × EventPlan };
+
+    ghost view = { λ t. (t.terms, t.plan.now) };
+
+    ghost invariant = { λ t. t.plan.now.periods ≡ parts_between t.terms t.plan.now.redemptions };
+}
+
+impl<'a> LoanTable<'a> {
+    ghost use Rattle.std.specs.Prelude.{◌≡◌};
+    ghost use Rattle.act_profile.specs.LoanPlan.{parts_between};
+
+    /// The table of a loan's terms and its plan.
+    pub fn new(terms: LoanTerms, plan: &'a Plan) -> LoanTable<'a>
+        requires { plan.now.periods ≡ parts_between terms plan.now.redemptions }
+        ensures { result ≡ (terms, plan.now) }
+    {
+        LoanTable { terms, plan }
+    }
+}
+
+impl Table for LoanTable<'_> {
+    ghost use Rattle.act_profile.specs.Loan.{before_event, loan_line};
+
+    ghost line = { λ t event. loan_line t.0 t.1 event };
+
+    ghost accrual = { λ t event state. before_event t.0 event.kind event.calc state };
+
+    fn payment(&self, event: &Event) -> Payment {
+        match event.kind {
+            EventType::IED
+            | EventType::PR
+            | EventType::PP
+            | EventType::FP
+            | EventType::PRD
+            | EventType::TD
+            | EventType::IP
+            | EventType::MD => Payment::Amount,
+            EventType::PY => self.terms.penalty_payment(event.calc),
+            _ => Payment::Nothing,
+        }
+    }
+
+    fn change_code(&self, event: &Event) -> Option<u32> {
+        match event.kind {
+            EventType::RR => self.terms.loan.rate_reset.market_object_code_of_rate_reset,
+            EventType::SC => self.terms.loan.scaling.market_object_code_of_scaling_index,
+            _ => None,
+        }
+    }
+
+    fn accrued(&self, event: &Event, state: &State) -> Option<State> {
+        self.terms.before_event(event.kind, event.calc, state)
+    }
+
+    fn payoff(&self, event: &Event, value: Option<Fixed>, state: &State) -> Option<Fixed> {
+        match event.kind {
+            EventType::IED => self.terms.exchange_payoff(),
+            EventType::PR => self.terms.redemption_payoff(state),
+            EventType::PP => Some(self.terms.prepayment_payoff(event, state)),
+            EventType::PY => self.terms.penalty_payoff(event.calc, value, state),
+            EventType::FP => self.terms.fee_payoff(state),
+            EventType::PRD => self.terms.purchase_payoff(state),
+            EventType::TD => self.terms.termination_payoff(state),
+            EventType::IP => interest_payoff(state),
+            EventType::MD => maturity_payoff(state),
+            _ => Some(Fixed::ZERO),
+        }
+    }
+
+    fn state_after(&self, event: &Event, value: Option<Fixed>, state: &State) -> Option<State> {
+        match event.kind {
+            EventType::IED => self.terms.after_exchange(event.calc, state),
+            EventType::PR => self.terms.redeem(state),
+            EventType::PP => self.terms.prepay(event, state),
+            EventType::FP => Some(without_fee(state)),
+            EventType::TD => Some(self.terms.terminated(state)),
+            EventType::IP => Some(without_interest(state)),
+            EventType::IPCI => self.terms.capitalize(state),
+            EventType::RRF => self.terms.after_fixed_reset(state),
+            EventType::RR => self.terms.reset(value, state),
+            EventType::PRF => self.terms.with_payment_fixed(self.plan, event.calc, state),
+            EventType::IPCB => Some(with_base_fixed(state)),
+            EventType::SC => self.terms.scale(value, state),
+            EventType::MD => Some(self.terms.repaid(state)),
+            _ => Some(*state),
+        }
+    }
+}

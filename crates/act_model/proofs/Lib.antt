@@ -1,0 +1,3 @@
+pub mod NamePlaces
+pub mod LatestRates
+pub mod RatePlaces

@@ -1,0 +1,28 @@
+//! The shared vocabulary: contracts' terms, events, states, rows, runs, observations and names.
+#![tactic(auto)]
+
+mod choice;
+mod event;
+mod journal;
+mod name;
+mod names;
+mod observed;
+mod run;
+mod state;
+mod terms;
+
+pub use choice::{
+    ContractRole, ContractType, DeliverySettlement, ExerciseType, FeeBasis, GuaranteedExposure,
+    InterestCalculationBase, OptionType, PenaltyType, ScalingEffect,
+};
+pub use event::{Event, EventType, Source};
+pub use journal::{Answer, Asked, Item, Line, Step};
+pub use name::{is_currency, is_name};
+pub use names::Names;
+pub use observed::{Listed, Obs, ObsKind, Observed, observed_is_last_of_latest_day};
+pub use run::{Close, Plan, PlanFault, Row, Run, Stop};
+pub use state::State;
+pub use terms::{
+    Ann, Capfl, Cec, Ceg, Common, Covered, Fee, Futur, Fxout, Kind, Lam, Loan, Nam, Optns, Pam,
+    RateReset, Redemption, Scaling, Stk, Swaps, Swppv, Terms,
+};

@@ -1,0 +1,204 @@
+//! Names and their numbers.
+ghost use Rattle.std.specs.Prelude.{◌≡◌, ◌^◌, ◌<◌, ◌++◌, [], ◌∷◌, true, false, None, Some, length, slice_get, option_map, IfOk, IfErr, IfSome, codes};
+ghost use Rattle.std.specs.Str.{bytes_eq};
+ghost use Rattle.act_model.specs.Name.{is_name};
+ghost use Rattle.act_model.specs.Names.{no_names, number_of, place_of, with_name};
+
+use act_num::NoMemory;
+use indexmap::IndexSet;
+use std::alloc::Global;
+use std::marker::Model;
+
+/// The names of contracts, of market objects, which are called codes, and of currencies. A name's number is its
+/// place, from 0, among those of its sort, in the order in which they were added. No name is held twice.
+#[derive(Drop)]
+pub struct Names {
+    contracts: NameList,
+    codes: NameList,
+    currencies: NameList,
+}
+
+impl Model for Names {
+    ghost use Rattle.act_model.specs.Names.{NameLists};
+
+    ghost Value = { NameLists };
+
+    ghost view = { λ n. record { contracts = n.contracts; codes = n.codes; currencies = n.currencies } };
+}
+
+/// Names of one sort, in the order in which they were added.
+#[derive(Drop)]
+struct NameList {
+    texts: IndexSet<String>,
+}
+
+impl Model for NameList {
+    ghost use Rattle.std.specs.Prelude.{ℕ, List, map, string_bytes};
+    ghost use Rattle.act_model.specs.Names.{AreNames};
+
+    ghost Value = { List (List ℕ) };
+
+    ghost view = { λ n. map string_bytes n.texts.keys };
+
+    ghost invariant = { λ n. AreNames (map string_bytes n.texts.keys) };
+}
+
+impl Names {
+    /// No names. What is added later is allocated by `alloc`.
+    pub fn new(alloc: Global) -> Names
+        ensures { result ≡ no_names }
+    {
+        Names {
+            contracts: NameList::new(alloc),
+            codes: NameList::new(alloc),
+            currencies: NameList::new(alloc),
+        }
+    }
+
+    /// The name of the contract of that number, or None where there is no such number.
+    pub fn id(&self, contract: u32) -> Option<&str>
+        ensures value { option_map (λ s. s.now) result ≡ slice_get self.now.contracts contract }
+        ensures name { IfSome result (λ s. is_name s.now ≡ true) }
+        ensures number { IfSome result (λ s. place_of s.now self.now.contracts ≡ Some contract) }
+    {
+        self.contracts.name(contract)
+    }
+
+    /// The name of the market object of that number, or None where there is no such number.
+    pub fn code(&self, code: u32) -> Option<&str>
+        ensures value { option_map (λ s. s.now) result ≡ slice_get self.now.codes code }
+        ensures name { IfSome result (λ s. is_name s.now ≡ true) }
+        ensures number { IfSome result (λ s. place_of s.now self.now.codes ≡ Some code) }
+    {
+        self.codes.name(code)
+    }
+
+    /// The name of the currency of that number, or None where there is no such number.
+    pub fn currency(&self, currency: u32) -> Option<&str>
+        ensures value { option_map (λ s. s.now) result ≡ slice_get self.now.currencies currency }
+        ensures name { IfSome result (λ s. is_name s.now ≡ true) }
+        ensures number { IfSome result (λ s. place_of s.now self.now.currencies ≡ Some currency) }
+    {
+        self.currencies.name(currency)
+    }
+
+    /// The number of the contract of that name, or None where there is no such name.
+    pub fn contract(&self, id: &str) -> Option<u32>
+        ensures { result ≡ place_of id.now self.now.contracts }
+    {
+        self.contracts.number(id)
+    }
+
+    /// The number of the market object of that name, or None where there is no such name.
+    pub fn find_code(&self, code: &str) -> Option<u32>
+        ensures { result ≡ place_of code.now self.now.codes }
+    {
+        self.codes.number(code)
+    }
+
+    /// The number of the currency of that name, or None where there is no such name.
+    pub fn find_currency(&self, currency: &str) -> Option<u32>
+        ensures { result ≡ place_of currency.now self.now.currencies }
+    {
+        self.currencies.number(currency)
+    }
+
+    /// Adds the name of a contract, which isn't there yet and isn't `*`, behind the others, and gives its number.
+    /// Where memory runs out, the names are as before.
+    pub fn add_contract(&mut self, id: &str) -> Result<u32, NoMemory>
+        requires name { is_name id.now ≡ true }
+        requires no_star { bytes_eq id.now (codes "*") ≡ false }
+        requires absent { place_of id.now self.old.contracts ≡ None }
+        requires room { length self.old.contracts < 2 ^ 31 }
+        ensures number { IfOk result (λ n. n ≡ length self.old.contracts) }
+        ensures names { IfOk result (λ _. self.new ≡ record self.old { contracts = self.old.contracts ++ id.now ∷ [] }) }
+        ensures unchanged { IfErr result (λ _. self.new ≡ self.old) }
+    {
+        self.contracts.add(id)
+    }
+
+    /// Gives the number of the name of a market object, which it adds behind the others where it isn't there.
+    /// Where memory runs out, the names are as before.
+    pub fn intern_code(&mut self, code: &str) -> Result<u32, NoMemory>
+        requires name { is_name code.now ≡ true }
+        requires room { length self.old.codes < 2 ^ 31 }
+        ensures number { IfOk result (λ n. n ≡ number_of code.now self.old.codes) }
+        ensures names { IfOk result (λ _. self.new ≡ record self.old { codes = with_name code.now self.old.codes }) }
+        ensures unchanged { IfErr result (λ _. self.new ≡ self.old) }
+    {
+        self.codes.intern(code)
+    }
+
+    /// Gives the number of the name of a currency, which it adds behind the others where it isn't there. Where
+    /// memory runs out, the names are as before.
+    pub fn intern_currency(&mut self, currency: &str) -> Result<u32, NoMemory>
+        requires name { is_name currency.now ≡ true }
+        requires room { length self.old.currencies < 2 ^ 31 }
+        ensures number { IfOk result (λ n. n ≡ number_of currency.now self.old.currencies) }
+        ensures names { IfOk result (λ _. self.new ≡ record self.old { currencies = with_name currency.now self.old.currencies }) }
+        ensures unchanged { IfErr result (λ _. self.new ≡ self.old) }
+    {
+        self.currencies.intern(currency)
+    }
+}
+
+impl NameList {
+    /// No names.
+    fn new(alloc: Global) -> NameList
+        ensures { result ≡ [] }
+    {
+        NameList {
+            texts: IndexSet::new(alloc),
+        }
+    }
+
+    /// The name of that number.
+    fn name(&self, number: u32) -> Option<&str>
+        ensures value { option_map (λ s. s.now) result ≡ slice_get self.now number }
+        ensures name { IfSome result (λ s. is_name s.now ≡ true) }
+        ensures number { IfSome result (λ s. place_of s.now self.now ≡ Some number) }
+    {
+        let text = self.texts.get_index(number as usize)?;
+        Some(text.as_str())
+    }
+
+    /// The number of that name.
+    #[tactic(auto, using(crate::proofs::NamePlaces::place_among))]
+    fn number(&self, name: &str) -> Option<u32>
+        ensures { result ≡ place_of name.now self.now }
+    {
+        let place = self.texts.get_index_of(name)?;
+        Some(place as u32)
+    }
+
+    /// Adds a name, which isn't there yet, behind the others, and gives its number.
+    fn add(&mut self, name: &str) -> Result<u32, NoMemory>
+        requires name { is_name name.now ≡ true }
+        requires absent { place_of name.now self.old ≡ None }
+        requires room { length self.old < 2 ^ 31 }
+        ensures number { IfOk result (λ n. n ≡ length self.old) }
+        ensures names { IfOk result (λ _. self.new ≡ self.old ++ name.now ∷ []) }
+        ensures unchanged { IfErr result (λ _. self.new ≡ self.old) }
+    {
+        let number = self.texts.len() as u32;
+        let text = String::from_str(*self.texts.allocator(), name).map_err(|_| NoMemory)?;
+        let Ok(_) = self.texts.insert(text) else {
+            return Err(NoMemory);
+        };
+        Ok(number)
+    }
+
+    /// The number of a name, which it adds behind the others where it isn't there.
+    fn intern(&mut self, name: &str) -> Result<u32, NoMemory>
+        requires name { is_name name.now ≡ true }
+        requires room { length self.old < 2 ^ 31 }
+        ensures number { IfOk result (λ n. n ≡ number_of name.now self.old) }
+        ensures names { IfOk result (λ _. self.new ≡ with_name name.now self.old) }
+        ensures unchanged { IfErr result (λ _. self.new ≡ self.old) }
+    {
+        match self.number(name) {
+            Some(number) => Ok(number),
+            None => self.add(name),
+        }
+    }
+}

@@ -1,0 +1,4 @@
+pub mod Computed
+pub mod ComputedSpecial
+pub mod ComputedTables
+pub mod OnLiterals

@@ -1,0 +1,9 @@
+pub mod Answering
+pub mod Depths
+pub mod Paths
+pub mod Peeling
+pub mod Permuting
+pub mod Reaching
+pub mod Returning
+pub mod Settling
+pub mod Turning

@@ -1,0 +1,6 @@
+use Rattle.act_refs.specs.Path.{child_lists}
+use Rattle.act_refs.specs.Peeled.{IsPeeling}
+use Rattle.act_refs.proofs.peel.look_at_each.Given as goal
+
+abbrev pub invariant-contracts : goal.invariant-contracts
+invariant-contracts l = IsPeeling (child_lists l.children) l.next l.peeled l.queue.items
