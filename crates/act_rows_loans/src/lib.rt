@@ -1,0 +1,5 @@
+//! Worked rows of loans, as tests.
+#![tactic(auto)]
+
+#[cfg(test)]
+mod loan;
