@@ -1,0 +1,7 @@
+mod Adding
+mod Cutting
+mod EntryForms
+mod Members
+mod ScriptLines
+mod Soundness
+mod Weighing
