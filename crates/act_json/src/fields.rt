@@ -1,7 +1,7 @@
 //! The fields of a JSON object. A field is given where the object has its name with another value than null and
 //! the empty text.
-ghost use Rattle.std.specs.Prelude.{◌≡◌, ◌≢◌, Err, option_map, string_bytes};
-ghost use Rattle.std.specs.Option.{ok_or};
+ghost use Rattle.std.specs.Prelude.{◌≡◌, ◌≢◌, ◌≤◌, Err, IfOk, option_map, string_bytes};
+ghost use Rattle.std.specs.Option.{ForSome, ok_or};
 ghost use Rattle.serde_json.specs.View.{view};
 ghost use Rattle.act_json.specs.Fields.{cycle_field, day_field, decimal_field, field_of, period_field, word_field};
 ghost use Rattle.act_json.specs.Results.{result_map};
@@ -50,9 +50,11 @@ pub fn day(value: &Value, name: &str) -> Result<Option<Day>, JsonFault>
         .map_err(|_| JsonFault::BadValue)
 }
 
-/// The cycle of a field. BadValue where the text is no cycle; None and WrongShape as in [`text`].
+/// The cycle of a field, whose period has at least one unit. BadValue where the text is no cycle; None and WrongShape
+/// as in [`text`].
 pub fn cycle(value: &Value, name: &str) -> Result<Option<Cycle>, JsonFault>
-    ensures { result ≡ cycle_field name.now (view value.now) }
+    ensures value { result ≡ cycle_field name.now (view value.now) }
+    ensures leads_on { IfOk result (λ found. ForSome found (λ c. 1 ≤ c.count)) }
 {
     let Some(text) = field(value, name)? else {
         return Ok(None);

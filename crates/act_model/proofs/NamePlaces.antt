@@ -8,7 +8,7 @@ use Rattle.std.proofs.lemmas.List.Quantifiers.{position-Some}
 use Rattle.std.proofs.lemmas.List.Sums.{fails_before_first, position_or_len_is}
 use Rattle.std.proofs.lemmas.Option.{get_or_from_slice_get, slice_get-get_or, slice_get-map, slice_get_within}
 use Rattle.std.proofs.lemmas.Slice.Eq.{bytes_eq-Decides}
-use Rattle.std.specs.List.{list_any, position, position_or_len, slice_get}
+use Rattle.std.specs.List.{AllZip, list_any, position, position_or_len, slice_get}
 use Rattle.std.specs.Str.{bytes_eq}
 use Rattle.act_model.specs.Name.{is_name}
 use Rattle.act_model.specs.Names.{AreNames, place_of}
@@ -42,6 +42,13 @@ any_by p (x ∷ xs) all =
     ] all
 
 -- ---- the texts of a set
+
+-- copies of texts have their bytes
+pub same_texts : {X Y : Type 0} (bytes : X → Y) (texts copies : List X) → AllZip (λ text copy. bytes copy ≡ bytes text) texts copies → map bytes copies ≡ map bytes texts
+same_texts bytes [] [] same = refl
+same_texts bytes [] (copy ∷ copies) same = absurd same
+same_texts bytes (text ∷ texts) [] same = absurd same
+same_texts bytes (text ∷ texts) (copy ∷ copies) same = rw same.0 (ap (λ more. bytes text ∷ more) (same_texts bytes texts copies same.1))
 
 module _ {X : Type 0} (bytes : X → List ℕ) (texts : List X) where
   pub place_among : (name : List ℕ) → place_of name (map bytes texts) ≡ position (λ x. bytes_eq name (bytes x)) texts

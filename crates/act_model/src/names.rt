@@ -140,6 +140,20 @@ impl Names {
     {
         self.currencies.intern(currency)
     }
+
+    /// A copy of the names.
+    pub fn copied(&self) -> Result<Names, NoMemory>
+        ensures { IfOk result (λ names. names ≡ self.now) }
+    {
+        let contracts = self.contracts.copied()?;
+        let codes = self.codes.copied()?;
+        let currencies = self.currencies.copied()?;
+        Ok(Names {
+            contracts,
+            codes,
+            currencies,
+        })
+    }
 }
 
 impl NameList {
@@ -199,6 +213,16 @@ impl NameList {
         match self.number(name) {
             Some(number) => Ok(number),
             None => self.add(name),
+        }
+    }
+
+    /// A copy of the names.
+    fn copied(&self) -> Result<NameList, NoMemory>
+        ensures { IfOk result (λ names. names ≡ self.now) }
+    {
+        match self.texts.clone() {
+            Ok(texts) => Ok(NameList { texts }),
+            Err(_) => Err(NoMemory),
         }
     }
 }

@@ -1,4 +1,4 @@
-//! Worked rows as tests, a module for each crate that they are of: numbers and time, the turn, the outside, the commands.
+//! Worked rows as tests, a module for each crate that they are of: numbers and time, the turn and the outside.
 #![tactic(auto)]
 
 #[cfg(test)]
@@ -13,7 +13,5 @@ mod io;
 mod num;
 #[cfg(test)]
 mod sched;
-#[cfg(test)]
-mod top;
 #[cfg(test)]
 mod turn;

@@ -1,87 +1,205 @@
--- The outcome of a file that was read.
-use Rattle.std.proofs.Common.{◌≡◌, ◌≢◌, ℕ, ◌≤◌, List, ◌++◌, length, Option, None, Some, Result, Ok, Err, IfSome, IfOk, true≢false, refl, sym, ap, subst, ◌∙◌}
-use Rattle.std.specs.Prelude.{IsErr, ⊤}
-use Rattle.std.proofs.lemmas.Bool.{le-ltb}
+-- The status that a command ends with.
+use Rattle.std.proofs.Common.{◌≡◌, ℕ, List, [], ◌∷◌, Option, None, Some, Result, Ok, Err, IfSome, IfOk, IsSomeAnd, inl, inr, ◌⊎◌, option_to_list, if◌then◌else◌, true, false, Bool, refl, sym, ap, subst, ◌∙◌}
+use Rattle.std.specs.Prelude.{⊤}
+use Rattle.std.proofs.lemmas.Option.{IfSome_then}
 use Rattle.act_io.specs.Put.{written_after}
-use Rattle.act_top.specs.Loan.{Close, ends, overflows, run_of}
-use Rattle.act_top.specs.Output.{EndsAs, Outcome, close_status, file_outcome, portfolio_outcome}
-use Rattle.act_top.specs.Portfolio.{portfolio_of}
-use Rattle.act_top.specs.Terms.{LoanTerms}
-use Rattle.act_top.specs.declared.portfolio.PortfolioFault.{PortfolioFault}
-use Rattle.act_top.specs.declared.portfolio.PortfolioFault.TheVariants.{NoMemory as NoMemoryToRead}
+use Rattle.act_top.specs.Asked.{Asks, AsksBy, AsksFor, NamesFile}
+use Rattle.act_top.specs.Command.{CommandWords, files_of, script_file}
+use Rattle.act_top.specs.Halts.{AsksFiles, halt_outcome, refusal_of}
+use Rattle.act_top.specs.Output.{EndsAs, Outcome, long_outcome, outcome_of, read_outcome, status_of}
+use Rattle.act_top.specs.Tasks.{task_outcome}
+use Rattle.act_top.specs.Written.{Writes}
+use Rattle.act_top.specs.declared.halt.Halt.{Halt}
+use Rattle.act_top.specs.declared.halt.Halt.TheVariants as halt
+use Rattle.act_top.specs.declared.task.Task.{Task}
+use Rattle.act_top.specs.declared.task.Task.TheVariants as task
 use Rattle.act_top.specs.declared.top.Status.{Status}
 use Rattle.act_top.specs.declared.top.Status.TheVariants.{Done, Words, ReadFault, TooLong, PortfolioRefused, ScriptRefused, WriteFault, Unfinished, NoMemory}
-use Rattle.act_top.specs.declared.top.Stop.{Stop}
-use Rattle.act_top.proofs.Written.{written-both}
+use Rattle.act_top.specs.declared.writing.Stop.{Stop}
+use Rattle.act_top.specs.declared.writing.Stop.TheVariants.{Sink as SinkStop, Memory}
 
--- the status of a portfolio that was read
-abbrev pub IsOfReading : Status → Type 0
-IsOfReading Done = ⊤
-IsOfReading PortfolioRefused = ⊤
-IsOfReading Unfinished = ⊤
-IsOfReading Words = ⊥
-IsOfReading ReadFault = ⊥
-IsOfReading TooLong = ⊥
-IsOfReading ScriptRefused = ⊥
-IsOfReading WriteFault = ⊥
-IsOfReading NoMemory = ⊥
-
-of_close : (close : Close) → IsOfReading (close_status close)
-of_close ends = tt
-of_close (overflows event) = tt
-
-of_portfolio : (portfolio : Result (Option LoanTerms) PortfolioFault) → IsOfReading (portfolio_outcome portfolio).status
-unfolding portfolio_outcome
-of_portfolio (Ok None) = tt
-of_portfolio (Ok (Some terms)) = of_close (run_of terms).close
-of_portfolio (Err fault) = tt
-
--- a portfolio has no other status
-pub of_reading : (portfolio : Result (Option LoanTerms) PortfolioFault) (status : Status) → status ≡ (portfolio_outcome portfolio).status → IsOfReading status
-of_reading portfolio status is = rw is (of_portfolio portfolio)
+-- ---- the wanted outcome
 
 -- the wanted status with its text
-as_wanted : (wanted : Outcome) (status : Status) (before after : Option (List ℕ)) → status ≡ wanted.status → after ≡ written_after before wanted.text → EndsAs wanted status before after
-as_wanted wanted Done before after is put = (is, put)
-as_wanted wanted Words before after is put = (is, put)
-as_wanted wanted ReadFault before after is put = tt
-as_wanted wanted TooLong before after is put = (is, put)
-as_wanted wanted PortfolioRefused before after is put = (is, put)
-as_wanted wanted ScriptRefused before after is put = (is, put)
-as_wanted wanted WriteFault before after is put = tt
-as_wanted wanted Unfinished before after is put = (is, put)
-as_wanted wanted NoMemory before after is put = tt
+as-wanted : (wanted : Outcome) (status : Status) (before after : Option (List ℕ)) → status ≡ wanted.status → after ≡ written_after before wanted.text → EndsAs wanted status before after
+as-wanted wanted Done before after is put = (is, put)
+as-wanted wanted Words before after is put = (is, put)
+as-wanted wanted ReadFault before after is put = tt
+as-wanted wanted TooLong before after is put = (is, put)
+as-wanted wanted PortfolioRefused before after is put = (is, put)
+as-wanted wanted ScriptRefused before after is put = (is, put)
+as-wanted wanted WriteFault before after is put = tt
+as-wanted wanted Unfinished before after is put = (is, put)
+as-wanted wanted NoMemory before after is put = tt
 
--- a text that was written behind a heading
-pub behind : (result : Result Status Stop) (wanted : Status) (before middle after : Option (List ℕ)) (head text : List ℕ) → middle ≡ written_after before head
-    → IfOk result (λ status. (status ≡ wanted) × (after ≡ written_after middle text)) → IfOk result (λ status. (status ≡ wanted) × (after ≡ written_after before (head ++ text)))
-behind (Ok status) wanted before middle after head text begun ended = (ended.0, ended.1 ∙ ap (λ w. written_after w text) begun ∙ written-both before head text)
-behind (Err stop) wanted before middle after head text begun ended = ended
+-- a text that was written with its status
+pub ends : (wanted : Outcome) (written : Result Status Stop) (before after : Option (List ℕ)) → IfOk written (λ status. status ≡ wanted.status) → Writes written wanted.text before after → EndsAs wanted (status_of written) before after
+ends wanted (Ok status) before after is put = as-wanted wanted status before after is put
+ends wanted (Err SinkStop) before after is put = tt
+ends wanted (Err Memory) before after is put = tt
 
--- what is written of a file that was read is what its bytes give
-pub of_file : (word : Option (List ℕ)) (content : List ℕ → Option (List ℕ)) (name read : List ℕ) (portfolio : Result (Option LoanTerms) PortfolioFault) (result : Result Status Stop) (before after : Option (List ℕ))
-    → Some name ≡ word → IfSome (content name) (λ bytes. (read ≡ bytes) × (length bytes ≤ 67108864))
-    → (portfolio ≢ Err NoMemoryToRead → portfolio ≡ portfolio_of read) → (portfolio ≡ Err NoMemoryToRead → IsErr result)
-    → IfOk result (λ status. (status ≡ (portfolio_outcome portfolio).status) × (after ≡ written_after before (portfolio_outcome portfolio).text))
-    → IfSome word (λ name. IfSome (content name) (λ bytes. IfOk result (λ status. EndsAs (file_outcome name bytes) status before after)))
-of_file word content name read portfolio result before after named told is memory ended =
-    subst (λ w. IfSome w (λ name. IfSome (content name) (λ bytes. IfOk result (λ status. EndsAs (file_outcome name bytes) status before after)))) named (by_content (content name) told)
+-- a task that was written
+pub ends-task : (told : Option Outcome) (task : Task) (written : Result Status Stop) (before after : Option (List ℕ)) → IfSome told (λ wanted. wanted ≡ task_outcome task)
+    → IfOk written (λ status. status ≡ (task_outcome task).status) → Writes written (task_outcome task).text before after → IfSome told (λ wanted. EndsAs wanted (status_of written) before after)
+ends-task told task written before after is status text =
+    IfSome_then told is (λ wanted same. subst (λ (o : Outcome). EndsAs o (status_of written) before after) (sym same) (ends (task_outcome task) written before after status text))
+
+-- a halt whose line was written
+pub ends-halt : (told : Option Outcome) (stopped : Halt) (written : Result Status Stop) (before after : Option (List ℕ)) → IfSome (refusal_of stopped) (λ outcome. IfSome told (λ wanted. wanted ≡ outcome))
+    → IfOk written (λ status. status ≡ (halt_outcome stopped).status) → Writes written (halt_outcome stopped).text before after → IfSome told (λ wanted. EndsAs wanted (status_of written) before after)
+ends-halt told stopped written before after is status text = by_halt stopped is status text
   where
-    by_result : (bytes : List ℕ) → read ≡ bytes → length bytes ≤ 67108864 → (result : Result Status Stop) → (portfolio ≡ Err NoMemoryToRead → IsErr result)
-        → IfOk result (λ status. (status ≡ (portfolio_outcome portfolio).status) × (after ≡ written_after before (portfolio_outcome portfolio).text))
-        → IfOk result (λ status. EndsAs (file_outcome name bytes) status before after)
-    by_result bytes same short (Err stop) memory ended = tt
-    by_result bytes same short (Ok status) memory ended =
-        let outcome : file_outcome name bytes ≡ portfolio_outcome portfolio = rw (sym same, le-ltb 67108864 (length read) (rw same short), is (λ lost. true≢false (sym (memory lost)))) refl in
-        as_wanted (file_outcome name bytes) status before after (ended.0 ∙ ap (λ (o : Outcome). o.status) (sym outcome)) (ended.1 ∙ ap (λ (o : Outcome). written_after before o.text) (sym outcome))
+    by_same : (outcome : Outcome) → IfSome told (λ wanted. wanted ≡ outcome) → IfOk written (λ status. status ≡ outcome.status) → Writes written outcome.text before after → IfSome told (λ wanted. EndsAs wanted (status_of written) before after)
+    by_same outcome is status text = IfSome_then told is (λ wanted same. subst (λ (o : Outcome). EndsAs o (status_of written) before after) (sym same) (ends outcome written before after status text))
 
-    by_content : (told : Option (List ℕ)) → IfSome told (λ bytes. (read ≡ bytes) × (length bytes ≤ 67108864))
-        → IfSome told (λ bytes. IfOk result (λ status. EndsAs (file_outcome name bytes) status before after))
-    by_content None told = tt
-    by_content (Some bytes) told = by_result bytes told.0 told.1 result memory ended
+    always : ((wanted : Outcome) → EndsAs wanted (status_of written) before after) → IfSome told (λ wanted. EndsAs wanted (status_of written) before after)
+    always all = by_told told
+      where
+        by_told : (t : Option Outcome) → IfSome t (λ wanted. EndsAs wanted (status_of written) before after)
+        by_told None = tt
+        by_told (Some wanted) = all wanted
 
--- such a status is no other one
-pub not_other : (portfolio : Result (Option LoanTerms) PortfolioFault) (result : Result Status Stop) (other : Status) (before after : Option (List ℕ)) → (IsOfReading other → ⊥)
-    → IfOk result (λ status. (status ≡ (portfolio_outcome portfolio).status) × (after ≡ written_after before (portfolio_outcome portfolio).text)) → IfOk result (λ status. status ≢ other)
-not_other portfolio (Ok status) other before after apart ended = λ same. apart (subst IsOfReading same (of_reading portfolio status ended.0))
-not_other portfolio (Err stop) other before after apart ended = ended
+    unread : (wanted : Outcome) (w : Result Status Stop) → IfOk w (λ status. status ≡ ReadFault) → EndsAs wanted (status_of w) before after
+    unread wanted (Ok status) is = rw is tt
+    unread wanted (Err SinkStop) is = tt
+    unread wanted (Err Memory) is = tt
+
+    lost : (wanted : Outcome) (w : Result Status Stop) → IfOk w (λ status. status ≡ NoMemory) → EndsAs wanted (status_of w) before after
+    lost wanted (Ok status) is = rw is tt
+    lost wanted (Err SinkStop) is = tt
+    lost wanted (Err Memory) is = tt
+
+    by_halt : (h : Halt) → IfSome (refusal_of h) (λ outcome. IfSome told (λ wanted. wanted ≡ outcome)) → IfOk written (λ status. status ≡ (halt_outcome h).status) → Writes written (halt_outcome h).text before after
+        → IfSome told (λ wanted. EndsAs wanted (status_of written) before after)
+    by_halt (halt.Unread line) is status text = always (λ wanted. unread wanted written status)
+    by_halt (halt.TooLong line) is status text = by_same _ is status text
+    by_halt (halt.PortfolioRefused line) is status text = by_same _ is status text
+    by_halt (halt.ScriptRefused line) is status text = by_same _ is status text
+    by_halt halt.Memory is status text = always (λ wanted. lost wanted written status)
+
+-- ---- the status
+
+-- the statuses of a task that was written
+abbrev pub IsOfTask : Status → Type 0
+IsOfTask Done = ⊤
+IsOfTask Words = ⊥
+IsOfTask ReadFault = ⊥
+IsOfTask TooLong = ⊥
+IsOfTask PortfolioRefused = ⊥
+IsOfTask ScriptRefused = ⊥
+IsOfTask WriteFault = ⊥
+IsOfTask Unfinished = ⊤
+IsOfTask NoMemory = ⊥
+
+of-ended : (ended : Bool) → IsOfTask (if ended then Done else Unfinished)
+of-ended true = tt
+of-ended false = tt
+
+of-task : (t : Task) → IsOfTask (task_outcome t).status
+of-task (task.Check portfolio) = tt
+of-task (task.Evaluate evaluation) = of-ended _
+
+-- a task that was written isn't the usage line
+pub not-words-task : (t : Task) (written : Result Status Stop) → IfOk written (λ status. status ≡ (task_outcome t).status) → status_of written ≡ Words → ⊥
+not-words-task t (Ok status) is same = subst IsOfTask (sym is ∙ same) (of-task t)
+not-words-task t (Err SinkStop) is same = cc
+not-words-task t (Err Memory) is same = cc
+
+-- a task that was written leaves no file unread
+pub not-unread-task : (t : Task) (written : Result Status Stop) → IfOk written (λ status. status ≡ (task_outcome t).status) → status_of written ≡ ReadFault → ⊥
+not-unread-task t (Ok status) is same = subst IsOfTask (sym is ∙ same) (of-task t)
+not-unread-task t (Err SinkStop) is same = cc
+not-unread-task t (Err Memory) is same = cc
+
+-- where writing a task failed, the sink failed
+pub write-failed-task : (t : Task) (written : Result Status Stop) → IfOk written (λ status. status ≡ (task_outcome t).status) → status_of written ≡ WriteFault → written ≡ Err SinkStop
+write-failed-task t (Ok status) is same = absurd (subst IsOfTask (sym is ∙ same) (of-task t))
+write-failed-task t (Err SinkStop) is same = refl
+write-failed-task t (Err Memory) is same = cc
+
+-- ---- what was asked for
+
+of-files : (command : CommandWords) (IsLine : List ℕ → Type 0) (status : Status) (before after : Option (List (List ℕ))) → IsOfTask status → Asks (files_of command) before after → AsksBy command status IsLine before after
+of-files command IsLine Done before after of asked = asked
+of-files command IsLine Words before after of asked = absurd of
+of-files command IsLine ReadFault before after of asked = absurd of
+of-files command IsLine TooLong before after of asked = absurd of
+of-files command IsLine PortfolioRefused before after of asked = absurd of
+of-files command IsLine ScriptRefused before after of asked = absurd of
+of-files command IsLine WriteFault before after of asked = absurd of
+of-files command IsLine Unfinished before after of asked = asked
+of-files command IsLine NoMemory before after of asked = absurd of
+
+-- where a task was written, or in part, all its files
+pub asked-task : (command : CommandWords) (IsLine : List ℕ → Type 0) (t : Task) (written : Result Status Stop) (before after : Option (List (List ℕ))) → Asks (files_of command) before after
+    → IfOk written (λ status. status ≡ (task_outcome t).status) → AsksBy command (status_of written) IsLine before after
+asked-task command IsLine t (Ok status) before after asked is = of-files command IsLine status before after (subst IsOfTask (sym is) (of-task t)) asked
+asked-task command IsLine t (Err SinkStop) before after asked is = inr asked
+asked-task command IsLine t (Err Memory) before after asked is = tt
+
+some-then : (script : Option (List ℕ)) (Q R : List ℕ → Type 0) → ((name : List ℕ) → Q name → R name) → IsSomeAnd script Q → IsSomeAnd script R
+some-then None Q R step is = absurd is
+some-then (Some name) Q R step is = step name is
+
+-- the line of a file that was written
+names-line : (outcome : List ℕ → Outcome) (command : CommandWords) (items : List ℕ) (before after : Option (List (List ℕ))) (earlier later : Option (List ℕ)) → NamesFile outcome command (λ text. items ≡ text) before after
+    → later ≡ written_after earlier items → NamesFile outcome command (λ text. later ≡ written_after earlier text) before after
+names-line outcome command items before after earlier later (inl both) text = inl (both.0, text ∙ ap (written_after earlier) both.1)
+names-line outcome command items before after earlier later (inr some) text =
+    inr (some-then (script_file command.verb command.script) _ (λ script. Asks (command.portfolio ∷ script ∷ []) before after × (later ≡ written_after earlier (outcome script).text)) (λ script both. (both.0, text ∙ ap (written_after earlier) both.1)) some)
+
+-- the files up to one that wasn't read
+names-asks : (outcome : List ℕ → Outcome) (command : CommandWords) (IsLine : List ℕ → Type 0) (before after : Option (List (List ℕ))) → NamesFile outcome command IsLine before after → Asks (command.portfolio ∷ []) before after ⊎ Asks (files_of command) before after
+names-asks outcome command IsLine before after (inl both) = inl both.0
+names-asks outcome command IsLine before after (inr some) = inr (by_script (script_file command.verb command.script) some)
+  where
+    by_script : (script : Option (List ℕ)) → IsSomeAnd script (λ s. Asks (command.portfolio ∷ s ∷ []) before after × IsLine (outcome s).text) → Asks (command.portfolio ∷ option_to_list script) before after
+    by_script None some = absurd some
+    by_script (Some s) both = both.0
+
+-- where the line of a halt was written, or in part, the files up to it
+pub asked-halt : (A : Type 0) (command : CommandWords) (h : Halt) (written : Result Status Stop) (before after : Option (List (List ℕ))) (earlier later : Option (List ℕ)) → AsksFiles {A = A} command (Err h) before after
+    → IfOk written (λ status. status ≡ (halt_outcome h).status) → Writes written (halt_outcome h).text earlier later → (h ≡ halt.Memory → written ≡ Err Memory) → AsksBy command (status_of written) (λ line. later ≡ written_after earlier line) before after
+asked-halt A command (halt.Unread line) (Ok status) before after earlier later asked is text memory = rw is (names-line read_outcome command line.items before after earlier later asked text)
+asked-halt A command (halt.TooLong line) (Ok status) before after earlier later asked is text memory = rw is (names-line long_outcome command line.items before after earlier later asked text)
+asked-halt A command (halt.PortfolioRefused line) (Ok status) before after earlier later asked is text memory = rw is asked
+asked-halt A command (halt.ScriptRefused line) (Ok status) before after earlier later asked is text memory = rw is asked
+asked-halt A command halt.Memory (Ok status) before after earlier later asked is text memory = rw is tt
+asked-halt A command (halt.Unread line) (Err SinkStop) before after earlier later asked is text memory = names-asks read_outcome command (λ text. line.items ≡ text) before after asked
+asked-halt A command (halt.TooLong line) (Err SinkStop) before after earlier later asked is text memory = names-asks long_outcome command (λ text. line.items ≡ text) before after asked
+asked-halt A command (halt.PortfolioRefused line) (Err SinkStop) before after earlier later asked is text memory = inl asked
+asked-halt A command (halt.ScriptRefused line) (Err SinkStop) before after earlier later asked is text memory = inr asked
+asked-halt A command halt.Memory (Err SinkStop) before after earlier later asked is text memory = let lost = memory refl in cc
+asked-halt A command h (Err Memory) before after earlier later asked is text memory = tt
+
+-- ---- a command
+
+-- the outcome of a command whose task was written
+pub command-task : (content : List ℕ → Option (List ℕ)) (command : CommandWords) (given : Option CommandWords) (t : Task) (written : Result Status Stop) (status : Status) (before after : Option (List ℕ)) → Some command ≡ given → status ≡ status_of written
+    → IfSome (outcome_of content (Some command)) (λ wanted. wanted ≡ task_outcome t) → IfOk written (λ s. s ≡ (task_outcome t).status) → Writes written (task_outcome t).text before after
+    → IfSome (outcome_of content given) (λ wanted. EndsAs wanted status before after)
+command-task content command given t written status before after named same is done text =
+    subst (λ (g : Option CommandWords). IfSome (outcome_of content g) (λ wanted. EndsAs wanted status before after)) named
+    (subst (λ (s : Status). IfSome (outcome_of content (Some command)) (λ wanted. EndsAs wanted s before after)) (sym same) (ends-task (outcome_of content (Some command)) t written before after is done text))
+
+-- the outcome of a command that stopped
+pub command-halt : (content : List ℕ → Option (List ℕ)) (command : CommandWords) (given : Option CommandWords) (h : Halt) (written : Result Status Stop) (status : Status) (before after : Option (List ℕ)) → Some command ≡ given → status ≡ status_of written
+    → IfSome (refusal_of h) (λ outcome. IfSome (outcome_of content (Some command)) (λ wanted. wanted ≡ outcome)) → IfOk written (λ s. s ≡ (halt_outcome h).status) → Writes written (halt_outcome h).text before after
+    → IfSome (outcome_of content given) (λ wanted. EndsAs wanted status before after)
+command-halt content command given h written status before after named same is done text =
+    subst (λ (g : Option CommandWords). IfSome (outcome_of content g) (λ wanted. EndsAs wanted status before after)) named
+    (subst (λ (s : Status). IfSome (outcome_of content (Some command)) (λ wanted. EndsAs wanted s before after)) (sym same) (ends-halt (outcome_of content (Some command)) h written before after is done text))
+
+-- what a command asked for whose task was written
+pub command-asked : (command : CommandWords) (given : Option CommandWords) (t : Task) (written : Result Status Stop) (status : Status) (before after : Option (List (List ℕ))) (earlier later : Option (List ℕ)) → Some command ≡ given → status ≡ status_of written
+    → Asks (files_of command) before after → IfOk written (λ s. s ≡ (task_outcome t).status) → AsksFor given status before after earlier later
+command-asked command given t written status before after earlier later named same asked done =
+    subst (λ (g : Option CommandWords). AsksFor g status before after earlier later) named
+    (subst (λ (s : Status). AsksBy command s (λ line. later ≡ written_after earlier line) before after) (sym same) (asked-task command (λ line. later ≡ written_after earlier line) t written before after asked done))
+
+-- what a command asked for that stopped
+pub command-stopped : (A : Type 0) (command : CommandWords) (given : Option CommandWords) (h : Halt) (written : Result Status Stop) (status : Status) (before after : Option (List (List ℕ))) (earlier later : Option (List ℕ)) → Some command ≡ given → status ≡ status_of written
+    → AsksFiles {A = A} command (Err h) before after → IfOk written (λ s. s ≡ (halt_outcome h).status) → Writes written (halt_outcome h).text earlier later → (h ≡ halt.Memory → written ≡ Err Memory) → AsksFor given status before after earlier later
+command-stopped A command given h written status before after earlier later named same asked done text memory =
+    subst (λ (g : Option CommandWords). AsksFor g status before after earlier later) named
+    (subst (λ (s : Status). AsksBy command s (λ line. later ≡ written_after earlier line) before after) (sym same) (asked-halt A command h written before after earlier later asked done text memory))

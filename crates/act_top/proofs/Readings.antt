@@ -1,34 +1,29 @@
--- What the bytes of a portfolio are read as.
-use Rattle.std.proofs.Common.{◌≡◌, ℕ, suc, ◌≤◌, List, [], ◌∷◌, length, None, Some, true, false, refl, sym, ap, ⊎_elim, arith, String, Global}
-use Rattle.std.proofs.lemmas.Bool.{cases_Bool}
-use Rattle.std.proofs.lemmas.Str.{IsUtf8-from_is_utf8, is_utf8-from_IsUtf8}
-use Rattle.std.specs.Str.{IsUtf8, is_utf8}
-use Rattle.serde_json.specs.Data.{Data}
-use Rattle.serde_json.specs.Events.{members_len}
-use Rattle.serde_json.specs.Read.{read}
-use Rattle.serde_json.specs.View.{items_view, members_view}
-use Rattle.serde_json.specs.declared.value.Value.{Value}
-use Rattle.act_top.specs.Portfolio.{loan_of, reading_of}
-use Rattle.act_top.specs.Quoting.{quoted}
+-- What is read of a file whose bytes are told.
+use Rattle.std.proofs.Common.{◌≡◌, ℕ, ◌<◌, ◌≤◌, nat_lt, if◌then◌else◌, List, length, Option, None, Some, IfSome, Result, Err, refl, sym}
+use Rattle.std.proofs.lemmas.Bool.{le-ltb, lt-ltb}
+use Rattle.act_top.specs.Halts.{Reads, refusal_of}
+use Rattle.act_top.specs.Output.{Outcome, long_outcome, most_bytes}
+use Rattle.act_top.specs.declared.halt.Halt.{Halt}
 
--- what the quoted bytes are read as, where they are UTF-8
-pub reading_is : (bytes text : List ℕ) (value : Data) → text ≡ quoted bytes → IsUtf8 text → read text ≡ Some value → reading_of bytes ≡ Some value
-unfolding reading_of
-reading_is bytes text value same utf8 is = rw (sym same, is_utf8-from_IsUtf8 text utf8) is
+-- what bytes are, where they are no more than 64 MiB
+abbrev pub within_limit : {A : Type 0} → List ℕ → List ℕ → Result A Outcome → Result A Outcome
+within_limit name bytes read = if nat_lt most_bytes (length bytes) then Err (long_outcome name) else read
 
--- bytes without a reading
-pub no_reading : (bytes text : List ℕ) → text ≡ quoted bytes → (IsUtf8 text → read text ≡ None) → reading_of bytes ≡ None
-unfolding reading_of
-no_reading bytes text same none =
-    rw (sym same) (⊎_elim (λ (yes : is_utf8 text ≡ true). rw yes (none (IsUtf8-from_is_utf8 text yes))) (λ (no : is_utf8 text ≡ false). rw no refl) (cases_Bool (is_utf8 text)))
+module _ {A : Type 0} (name : List ℕ) (read : List ℕ → Result A Outcome) where
+  -- a file that is too long is refused
+  pub refused-long : (bytes : List ℕ) (refusal : Option Outcome) → IfSome refusal (λ outcome. (most_bytes < length bytes) × (outcome ≡ long_outcome name)) → IfSome refusal (λ outcome. within_limit name bytes (read bytes) ≡ Err outcome)
+  refused-long bytes None refused = tt
+  refused-long bytes (Some outcome) refused = rw (lt-ltb most_bytes (length bytes) refused.0, refused.1) refl
 
--- an object has as many members as its map has entries
-pub members_len_view : (entries : List (String Global × Value)) → members_len (members_view entries) ≡ length entries
-members_len_view [] = refl
-members_len_view (entry ∷ entries) = ap suc (members_len_view entries)
+  pub told-unread : (content : Option (List ℕ)) (r : Result A Halt) (halt : Halt) → r ≡ Err halt → IfSome content (λ bytes. IfSome (refusal_of halt) (λ outcome. (most_bytes < length bytes) × (outcome ≡ long_outcome name)))
+      → IfSome content (λ bytes. Reads (within_limit name bytes (read bytes)) r)
+  told-unread None r halt is told = tt
+  told-unread (Some bytes) r halt is told = rw is (refused-long bytes (refusal_of halt) told)
 
--- a list of several contracts isn't accepted
-pub several_contracts : (contracts : List Value) → 2 ≤ length contracts → loan_of (items_view contracts) ≡ None
-several_contracts [] few = absurd (omega arith)
-several_contracts (contract ∷ []) few = absurd (omega arith)
-several_contracts (contract ∷ other ∷ contracts) few = refl
+  -- what was read are the file's bytes
+  pub told-read : (content : Option (List ℕ)) (items : List ℕ) (r : Result A Halt) → length items ≤ most_bytes → IfSome content (λ bytes. items ≡ bytes) → Reads (read items) r
+      → IfSome content (λ bytes. Reads (within_limit name bytes (read bytes)) r)
+  told-read None items r within told reads = tt
+  told-read (Some bytes) items r within told reads =
+      let short : within_limit name bytes (read bytes) ≡ read items = rw (sym told, le-ltb most_bytes (length items) within) refl in
+      rw short reads

@@ -1,6 +1,7 @@
-pub mod Loan
+pub mod Asked
+pub mod Command
+pub mod Halts
 pub mod Output
-pub mod Portfolio
-pub mod Quoting
-pub mod Terms
-pub mod Text
+pub mod Ready
+pub mod Tasks
+pub mod Written

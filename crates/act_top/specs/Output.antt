@@ -1,26 +1,55 @@
--- What the command `eval` writes, and the status that it ends with. This profile's own.
-use Rattle.std.specs.Prelude.{◌≡◌, ℕ, nat_lt, if◌then◌else◌, List, [], ◌∷◌, ◌++◌, length, bytes_eq, codes, Option, Some, None, Result, Ok, Err, ⊤}
+-- What the commands write, and the status that they end with. This profile's own.
+use Rattle.std.specs.Prelude.{◌≡◌, ℕ, ◌+◌, nat_lt, if◌then◌else◌, Bool, true, false, List, [], ◌∷◌, ◌++◌, length, map, take, codes, decimal, Option, Some, None, option_map, option_and_then, Result, Ok, Err, ⊤}
+use Rattle.std.specs.List.{count_by, filter_map, flat_map, list_all, range_with_len, sum}
 use Rattle.act_io.specs.Put.{written_after}
-use Rattle.act_top.specs.Loan.{Close, ends, overflows, run_of}
-use Rattle.act_top.specs.Portfolio.{portfolio_of}
-use Rattle.act_top.specs.Terms.{LoanTerms}
-use Rattle.act_top.specs.Text.{block_text, heading, line_of}
-use Rattle.act_top.specs.declared.portfolio.PortfolioFault.{PortfolioFault}
-use Rattle.act_top.specs.declared.portfolio.PortfolioFault.TheVariants.{NotJson, NotBuilt, NoMemory as NoMemoryToRead}
+use Rattle.act_model.specs.Name.{has_form}
+use Rattle.act_model.specs.Names.{NameLists}
+use Rattle.act_model.specs.declared.choice.ContractType.{ContractType}
+use Rattle.act_model.specs.declared.choice.ContractType.TheVariants as type
+use Rattle.act_model.specs.declared.journal.Asked.TheVariants.{All}
+use Rattle.act_model.specs.declared.journal.Item.{Item}
+use Rattle.act_model.specs.declared.journal.Line.{Line}
+use Rattle.act_model.specs.declared.journal.Step.{Step}
+use Rattle.act_model.specs.declared.journal.Step.TheVariants.{Append, Ask}
+use Rattle.act_model.specs.declared.observed.Obs.{Obs}
+use Rattle.act_model.specs.declared.observed.Obs.TheVariants.{Event, Rate}
+use Rattle.act_model.specs.declared.run.Close.{Close}
+use Rattle.act_model.specs.declared.run.Close.TheVariants.{End, Missing, Overflow}
+use Rattle.act_model.specs.declared.terms.Terms.{Terms}
+use Rattle.act_portfolio.specs.Counts.{cone_sum, scheduled_count}
+use Rattle.act_portfolio.specs.Reading.{Accepted, portfolio_of}
+use Rattle.act_portfolio.specs.Refusal.{Refusal}
+use Rattle.act_print.specs.Asks.{asks_of, contracts_of}
+use Rattle.act_print.specs.Printed.{Block, Response, printed_block}
+use Rattle.act_print.specs.Text.{text_of}
+use Rattle.act_print.specs.declared.asks.Asking.{Asking}
+use Rattle.act_profile.specs.Contract.{type_of}
+use Rattle.act_profile.specs.Run.{run_of}
+use Rattle.act_script.specs.Reading.{Script, script_of}
+use Rattle.act_script.specs.Weight.{Tariff, all_asks, overweight}
+use Rattle.act_script.specs.declared.fault.ScriptFault.{ScriptFault}
+use Rattle.act_script.specs.declared.fault.ScriptFault.TheVariants.{NotLine, UnknownName, EventUnfit, TooManyEntries, NoMemory as NoMemoryToRead}
+use Rattle.act_text.specs.Lines.{line_of}
+use Rattle.act_top.specs.Command.{CommandWords}
+use Rattle.act_top.specs.declared.command.Verb.{Verb}
+use Rattle.act_top.specs.declared.command.Verb.TheVariants.{Eval, Check}
 use Rattle.act_top.specs.declared.top.Status.{Status}
-use Rattle.act_top.specs.declared.top.Status.TheVariants.{Done, Words, ReadFault, TooLong, PortfolioRefused, WriteFault, Unfinished, NoMemory}
+use Rattle.act_top.specs.declared.writing.Stop.{Stop}
+use Rattle.act_top.specs.declared.writing.Stop.TheVariants.{Sink as SinkStop, Memory}
+use Rattle.act_top.specs.declared.top.Status.TheVariants.{Done, Words, ReadFault, TooLong, PortfolioRefused, ScriptRefused, WriteFault, Unfinished, NoMemory}
+
+-- the status of what was written whole, or of why it wasn't
+abbrev pub status_of : Result Status Stop → Status
+status_of (Ok status) = status
+status_of (Err SinkStop) = WriteFault
+status_of (Err Memory) = NoMemory
 
 -- a status, and what is written with it
 pub record Outcome : Type 0 where
   pub status : Status
   pub text : List ℕ
 
--- the file that the words `eval P` name; other words are of no form
-abbrev pub portfolio_word : List (List ℕ) → Option (List ℕ)
-portfolio_word [] = None
-portfolio_word (command ∷ []) = None
-portfolio_word (command ∷ file ∷ []) = if bytes_eq command (codes "eval") then Some file else None
-portfolio_word (command ∷ file ∷ more ∷ words) = None
+-- ---- lines that refuse
 
 -- words of no form: the usage line
 abbrev pub words_outcome : Outcome
@@ -33,31 +62,220 @@ read_outcome name = record { status = ReadFault; text = line_of (codes "read") (
 abbrev pub long_outcome : List ℕ → Outcome
 long_outcome name = record { status = TooLong; text = line_of (codes "long") (name ∷ []) }
 
--- the line of a portfolio that is refused; want of memory is no refusal, and no bytes are refused by it
-abbrev pub refusal_line : PortfolioFault → List ℕ
-refusal_line NotJson = codes "portfolio 10 0 -\n"
-refusal_line NotBuilt = codes "portfolio 24 0 -\n"
-refusal_line NoMemoryToRead = []
+-- a portfolio that is refused: the number, the contract's place, and what is refused
+abbrev pub portfolio_refused : Refusal → Outcome
+portfolio_refused refusal =
+    record { status = PortfolioRefused; text = line_of (codes "portfolio") (decimal refusal.number ∷ decimal refusal.place ∷ refusal.what ∷ []) }
 
--- the status of a run that was written whole
-abbrev pub close_status : Close → Status
-close_status ends = Done
-close_status (overflows event) = Unfinished
+-- a script that is refused: the number, the script's place from 1, and the line
+abbrev pub script_refused : ℕ → ℕ → ℕ → Outcome
+script_refused number script line =
+    record { status = ScriptRefused; text = line_of (codes "script") (decimal number ∷ decimal script ∷ decimal line ∷ []) }
 
--- the journal and the answer for a portfolio, or the line of its refusal
-unfoldable pub portfolio_outcome : Result (Option LoanTerms) PortfolioFault → Outcome
-portfolio_outcome (Ok None) = record { status = Done; text = heading }
-portfolio_outcome (Ok (Some terms)) = record { status = close_status (run_of terms).close; text = heading ++ block_text terms }
-portfolio_outcome (Err fault) = record { status = PortfolioRefused; text = refusal_line fault }
+-- the line of the one script's fault. Want of memory is no refusal, and no bytes are refused by it
+abbrev pub script_fault : ScriptFault → Outcome
+script_fault (NotLine line) = script_refused 1 1 line
+script_fault (UnknownName line) = script_refused 2 1 line
+script_fault (EventUnfit line) = script_refused 3 1 line
+script_fault (TooManyEntries line) = script_refused 4 1 line
+script_fault NoMemoryToRead = record { status = NoMemory; text = [] }
 
--- what `eval` writes for the bytes of a portfolio file that isn't too long
-abbrev pub output_of : List ℕ → List ℕ
-output_of bytes = (portfolio_outcome (portfolio_of bytes)).text
+-- ---- files
 
--- the same with the status, for the bytes of the file of that name, which may be 64 MiB long
-abbrev pub file_outcome : List ℕ → List ℕ → Outcome
-file_outcome name bytes =
-    if nat_lt 67108864 (length bytes) then long_outcome name else record { status = (portfolio_outcome (portfolio_of bytes)).status; text = output_of bytes }
+-- the most bytes of a file: 64 MiB
+abbrev pub most_bytes : ℕ
+most_bytes = 67_108_864
+
+-- the portfolio that bytes are, or the line that refuses them
+abbrev pub portfolio_accepted : List ℕ → Result Accepted Outcome
+portfolio_accepted bytes = elim (portfolio_of bytes) [
+  | Ok portfolio ↦ Ok portfolio
+  | Err refusal ↦ Err (portfolio_refused refusal)
+]
+
+-- the portfolio that the bytes of a file are, or the line that refuses them
+unfoldable pub portfolio_read : List ℕ → List ℕ → Result Accepted Outcome
+portfolio_read name bytes = if nat_lt most_bytes (length bytes) then Err (long_outcome name) else portfolio_accepted bytes
+
+-- the script that asks once for all contracts
+abbrev pub ask_for_all : NameLists → Script
+ask_for_all names = record { lines = record { step = Ask All; line = 1 } ∷ []; names = names; entries = 0 }
+
+-- the script that bytes are, or the line that refuses them
+abbrev pub script_accepted : Accepted → List ℕ → Result Script Outcome
+script_accepted portfolio bytes = elim (script_of bytes portfolio.names portfolio.contracts.terms 0) [
+  | Ok script ↦ Ok script
+  | Err fault ↦ Err (script_fault fault)
+]
+
+-- the script that the bytes of a file are, or the line that refuses them
+unfoldable pub script_read : Accepted → List ℕ → List ℕ → Result Script Outcome
+script_read portfolio name bytes = if nat_lt most_bytes (length bytes) then Err (long_outcome name) else script_accepted portfolio bytes
+
+-- the script of a command over the bytes of files, where they are told: that of the named file, or one ask for all contracts
+abbrev pub script_told : (List ℕ → Option (List ℕ)) → Accepted → Option (List ℕ) → Option (Result Script Outcome)
+script_told content portfolio None = Some (Ok (ask_for_all portfolio.names))
+script_told content portfolio (Some name) = option_map (script_read portfolio name) (content name)
+
+-- ---- what asks weigh
+
+-- the named contracts of a portfolio by their numbers
+abbrev pub numbers_of : Accepted → List ℕ
+numbers_of portfolio = range_with_len 0 (length portfolio.names.contracts)
+
+-- an event entry
+abbrev pub is_event : Line → Bool
+is_event line = elim line.step [
+  | Append entry ↦ elim entry [
+    | Rate code day value ↦ false
+    | Event contract kind day value ↦ true
+  ]
+  | Ask asked ↦ false
+]
+
+-- by what the asks of a script weigh
+abbrev pub tariff_of : Accepted → List Line → Tariff
+tariff_of portfolio lines =
+    record {
+      weights = map (cone_sum portfolio.contracts) (numbers_of portfolio);
+      all_weight = sum (map (cone_sum portfolio.contracts) (numbers_of portfolio));
+      all_contracts = length portfolio.names.contracts;
+      events = count_by is_event lines;
+    }
+
+-- the first ask past the limit: its script and its line
+abbrev pub too_much_asked : Accepted → List Line → Option (ℕ × ℕ)
+too_much_asked portfolio lines = overweight 0 (all_asks (tariff_of portfolio lines) (lines ∷ []))
+
+-- ---- answers
+
+-- the journal of one caller's script
+abbrev pub items_of : List Line → List Item
+items_of lines = map (λ (line : Line). record { caller = 1; step = line.step }) lines
+
+-- the entry that a step appends
+abbrev pub entry_of : Step → Option Obs
+entry_of (Append entry) = Some entry
+entry_of (Ask asked) = None
+
+-- the book of a journal: the entries that its items append, in order
+abbrev pub book_of : List Item → List Obs
+book_of items = filter_map (λ (item : Item). entry_of item.step) items
+
+-- the block of a contract: its run from inception over these entries
+abbrev pub block_of : Accepted → List Obs → ℕ → Block
+block_of portfolio entries c = printed_block (c, run_of portfolio.contracts entries c)
+
+-- the answer to an ask: each contract asked, in portfolio order, with its run from inception over the entries before the ask
+abbrev pub response_of : Accepted → NameLists → List Obs → Asking → Response
+response_of portfolio names entries asking =
+    record {
+      caller = asking.caller;
+      number = asking.number;
+      version = asking.version;
+      blocks = map (block_of portfolio (take asking.version entries)) (contracts_of names asking.asked);
+    }
+
+-- the answers to the asks of a journal, by caller and then by number
+abbrev pub responses_of : Accepted → NameLists → List Item → List Response
+responses_of portfolio names items = map (response_of portfolio names (book_of items)) (asks_of items)
+
+-- the text of a journal and its answers
+abbrev pub output_of : Accepted → NameLists → List Item → List ℕ
+output_of portfolio names items = text_of names items (responses_of portfolio names items)
+
+-- a run that wasn't stopped
+abbrev pub is_end : Close → Bool
+is_end End = true
+is_end (Missing code day) = false
+is_end (Overflow day kind) = false
+
+-- each contract of some answers ends well
+abbrev pub all_end : List Response → Bool
+all_end responses = list_all (λ (r : Response). list_all (λ (b : Block). is_end b.close) r.blocks) responses
+
+-- the status of answers
+abbrev pub answers_status : List Response → Status
+answers_status responses = if all_end responses then Done else Unfinished
+
+-- what is written of a script, unless its asks weigh too much
+unfoldable pub eval_outcome : Accepted → Script → Outcome
+eval_outcome portfolio script = elim (too_much_asked portfolio script.lines) [
+  | Some ask ↦ script_refused 5 ask.0 ask.1
+  | None ↦ record {
+    status = answers_status (responses_of portfolio script.names (items_of script.lines));
+    text = output_of portfolio script.names (items_of script.lines);
+  }
+]
+
+-- ---- what `check` writes
+
+-- the ACTUS name of a type
+abbrev pub type_word : ContractType → List ℕ
+type_word type.PAM = codes "PAM"
+type_word type.LAM = codes "LAM"
+type_word type.NAM = codes "NAM"
+type_word type.ANN = codes "ANN"
+type_word type.STK = codes "STK"
+type_word type.FXOUT = codes "FXOUT"
+type_word type.SWPPV = codes "SWPPV"
+type_word type.SWAPS = codes "SWAPS"
+type_word type.CAPFL = codes "CAPFL"
+type_word type.OPTNS = codes "OPTNS"
+type_word type.FUTUR = codes "FUTUR"
+type_word type.CEG = codes "CEG"
+type_word type.CEC = codes "CEC"
+
+-- a name of printable characters without space, of whatever length, stands as it is, and any other as `?`
+abbrev pub shown_name : List ℕ → List ℕ
+shown_name name = if has_form (length name) name then name else codes "?"
+
+-- the line of a name that isn't used
+unfoldable pub unused_line : List ℕ → List ℕ
+unused_line name = line_of (codes "unused") (shown_name name ∷ [])
+
+-- the line of a contract: its name, its kind and its scheduled count
+unfoldable pub contract_line : List ℕ → List ℕ → ℕ → List ℕ
+contract_line id kind count = line_of (codes "contract") (id ∷ kind ∷ decimal count ∷ [])
+
+-- the line of a portfolio: how many contracts have a name
+unfoldable pub count_line : ℕ → List ℕ
+count_line count = line_of (codes "portfolio") (codes "ok" ∷ decimal count ∷ [])
+
+-- a contract: its name, its kind and its scheduled count, and below it each name that isn't used
+abbrev pub contract_text : Accepted → ℕ → Terms → List ℕ → List (List ℕ) → List ℕ
+contract_text portfolio c terms id unused =
+    contract_line id (type_word (type_of terms.kind)) (scheduled_count portfolio.contracts c) ++ flat_map unused_line unused
+
+-- the contracts from a number on
+unfoldable pub contracts_text : Accepted → ℕ → List Terms → List (List ℕ) → List (List (List ℕ)) → List ℕ
+contracts_text portfolio c (terms ∷ others) (id ∷ ids) (unused ∷ lists) = contract_text portfolio c terms id unused ++ contracts_text portfolio (c + 1) others ids lists
+contracts_text portfolio c others ids lists = []
+
+-- how many contracts have a name, and each of them
+abbrev pub check_text : Accepted → List ℕ
+check_text portfolio =
+    count_line (length portfolio.names.contracts)
+    ++ contracts_text portfolio 0 portfolio.contracts.terms portfolio.names.contracts portfolio.unused
+
+-- ---- a command
+
+-- the outcome of an accepted portfolio and a script
+abbrev pub script_outcome : Accepted → Result Script Outcome → Outcome
+script_outcome portfolio (Ok script) = eval_outcome portfolio script
+script_outcome portfolio (Err outcome) = outcome
+
+-- the outcome of a command over a portfolio, where the bytes of the script are told
+abbrev pub verb_outcome : (List ℕ → Option (List ℕ)) → Verb → Option (List ℕ) → Result Accepted Outcome → Option Outcome
+verb_outcome content verb script (Err outcome) = Some outcome
+verb_outcome content Check script (Ok portfolio) = Some (record { status = Done; text = check_text portfolio })
+verb_outcome content Eval script (Ok portfolio) = option_map (script_outcome portfolio) (script_told content portfolio script)
+
+-- the outcome of words over the bytes of files by name, where those that are read are told
+abbrev pub outcome_of : (List ℕ → Option (List ℕ)) → Option CommandWords → Option Outcome
+outcome_of content None = Some words_outcome
+outcome_of content (Some command) =
+    option_and_then (λ bytes. verb_outcome content command.verb command.script (portfolio_read command.portfolio bytes)) (content command.portfolio)
 
 -- the status is the wanted one, and its text was written behind what had been (nothing is said where the sink doesn't tell
 -- that), unless reading or writing failed or memory ran out

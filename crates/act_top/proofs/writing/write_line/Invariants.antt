@@ -1,14 +1,15 @@
-use Rattle.std.proofs.Common.{◌≡◌, ◌≤◌, length}
+use Rattle.std.proofs.Common.{◌≡◌, ◌≤◌, ◌-◌, length, take}
 use Rattle.act_io.specs.Put.{written_after}
 use Rattle.act_top.proofs.writing.write_line.Given as goal
 
--- what is left of the line is still to be written
+-- as many bytes of the line were written
 abbrev pub invariant-pieces : goal.invariant-pieces
 invariant-pieces g l =
     record {
-      text : written_after (g.K.Sink.written l.out) l.rest ≡ written_after (g.K.Sink.written l.fn.out) l.line;
+      within : l.done ≤ length l.line;
+      text : g.K.Sink.written l.out ≡ written_after (g.K.Sink.written l.fn.out) (take l.done l.line);
       count : g.K.Sink.faults l.fn.out ≤ g.K.Sink.faults l.out;
     }
 
 abbrev pub decreases-pieces : goal.decreases-pieces
-decreases-pieces g l = length l.rest
+decreases-pieces g l = length l.line - l.done

@@ -1,0 +1,123 @@
+-- The portfolio of a list of contracts, from what its steps give.
+use Rattle.std.proofs.Common.{◌≡◌, ℕ, zero, suc, ◌*◌, ◌<◌, ◌≤◌, List, [], ◌∷◌, length, get_or, map, Bool, true, false, Option, Some, None, option_map, Result, Ok, Err, nat_lt, inl, inr, refl, ap, sym, subst, ◌∙◌, arith}
+use Rattle.std.proofs.lemmas.Bool.Decides.{nat_tests}
+use Rattle.std.proofs.lemmas.List.{get_or_default, length-map}
+use Rattle.std.proofs.lemmas.Option.{same_Some, slice_get-map, slice_get_cases}
+use Rattle.std.proofs.lemmas.Simd.{map-map}
+use Rattle.std.specs.List.{All, slice_get}
+use Rattle.act_loan.specs.Cycles.{HasCycles}
+use Rattle.act_model.specs.Names.{NameLists, no_names}
+use Rattle.act_model.specs.Run.{EventPlan}
+use Rattle.act_model.specs.declared.choice.ContractType.TheVariants.{PAM}
+use Rattle.act_model.specs.declared.terms.Terms.{Terms}
+use Rattle.act_profile.specs.Contract.{type_of}
+use Rattle.act_profile.specs.Outcomes.{then_ok}
+use Rattle.act_profile.specs.Plan.{plan_of}
+use Rattle.act_terms.specs.Contract.{NamedTerms, contract_of}
+use Rattle.act_terms.specs.Used.{unused_names}
+use Rattle.serde_json.specs.Data.{Data}
+use Rattle.act_portfolio.specs.Known.{IsContract, childless}
+use Rattle.act_portfolio.specs.Reading.{Accepted, IsAccepted, accepted, contracts_from, first_repeated, plans_from, portfolio_listed, unrepeated, within_limit}
+use Rattle.act_portfolio.specs.Refusal.{Refusal, refused_terms, refusing}
+use Rattle.act_portfolio.proofs.PlannedSoFar.{each_planned}
+use Rattle.act_portfolio.proofs.ReadSoFar.{Read}
+
+-- ---- the portfolio, or its refusal, step by step
+
+module _ (contracts : List Data) where
+  pub refused_contracts : (refusal : Refusal) → contracts_from zero no_names contracts ≡ Err refusal → portfolio_listed contracts ≡ Err refusal
+  unfolding portfolio_listed
+  refused_contracts refusal is = rw is refl
+
+  pub limit_kept : length contracts ≤ 4096 → within_limit contracts ≡ Ok contracts
+  limit_kept few = let e : nat_lt 4096 (length contracts) ≡ false = grind (arith, nat_tests) in rw e refl
+
+  module _ (named : List NamedTerms) (names : NameLists) (read : contracts_from zero no_names contracts ≡ Ok (named, names)) where
+    pub refused_number : (refusal : Refusal) → within_limit contracts ≡ Err refusal → portfolio_listed contracts ≡ Err refusal
+    unfolding portfolio_listed
+    refused_number refusal is = rw (read, is) refl
+
+    module _ (few : length contracts ≤ 4096) where
+      pub refused_names : (refusal : Refusal) → unrepeated (first_repeated [] (map (λ c. c.id) named)) (map (λ c. c.id) named) ≡ Err refusal → portfolio_listed contracts ≡ Err refusal
+      unfolding portfolio_listed
+      refused_names refusal is = rw (read, limit_kept few, is) refl
+
+      module _ (once : first_repeated [] (map (λ c. c.id) named) ≡ None) where
+        pub refused_plans : (refusal : Refusal) → plans_from zero (map (λ c. c.terms) named) ≡ Err refusal → portfolio_listed contracts ≡ Err refusal
+        unfolding portfolio_listed
+        refused_plans refusal is = rw (read, limit_kept few, once, is) refl
+
+        pub accepts : (plans : List EventPlan) → plans_from zero (map (λ c. c.terms) named) ≡ Ok plans → portfolio_listed contracts ≡ Ok (accepted contracts named names plans)
+        unfolding portfolio_listed
+        accepts plans is = rw (read, limit_kept few, once, is) refl
+
+-- ---- what is true of an accepted portfolio
+
+-- what is true of the terms of each contract is true of the terms at each place
+at_place : (P : Terms → Type 0) (named : List NamedTerms) → All (λ n. P n.terms) named → (c : ℕ) (t : Terms) → slice_get (map (λ n. n.terms) named) c ≡ Some t → P t
+at_place P named all c t here = elim (slice_get_cases named c).1 [
+  | inl found ↦
+      let same : found.0.terms ≡ t = same_Some _ _ (sym (slice_get-map (λ n. n.terms) named c ∙ ap (option_map (λ n. n.terms)) found.2) ∙ here) in
+      let holds : P found.0.terms = subst (λ n. P n.terms) found.3 (all c found.0 found.1) in
+      subst P same holds
+  | inr past ↦ let none : None ≡ Some t = sym (slice_get-map (λ n. n.terms) named c ∙ ap (option_map (λ n. n.terms)) past.1) ∙ here in absurd (cc)
+]
+
+pub plan_at : (terms : List Terms) (plans : List EventPlan) → map plan_of terms ≡ map Ok plans → (c : ℕ) (t : Terms) (plan : EventPlan) → slice_get terms c ≡ Some t → plan ≡ get_or plans c plan → plan_of t ≡ Ok plan
+plan_at terms plans planned c t plan here is =
+    let both : Some (plan_of t) ≡ option_map Ok (slice_get plans c) = sym (slice_get-map plan_of terms c ∙ ap (option_map plan_of) here) ∙ ap (λ l. slice_get l c) planned ∙ slice_get-map Ok plans c in
+    elim (slice_get_cases plans c).1 [
+      | inl found ↦
+          let same : found.0 ≡ plan = sym found.3 ∙ get_or_default plans c found.0 plan found.1 ∙ sym is in
+          same_Some _ _ (both ∙ ap (option_map Ok) found.2) ∙ ap Ok same
+      | inr past ↦ let none : Some (plan_of t) ≡ None = both ∙ ap (option_map Ok) past.1 in absurd (cc)
+    ]
+
+-- as many are read as there are
+abbrev pub AsMany : List Data → Type 0
+AsMany contracts = (i : ℕ) (names : NameLists) (named : List NamedTerms) (after : NameLists) → contracts_from i names contracts ≡ Ok (named, after) → length named ≡ length contracts
+
+-- the contracts that are read
+abbrev contracts_of : Read → List NamedTerms
+contracts_of (Ok read) = read.0
+contracts_of (Err refusal) = []
+
+-- one before others that are read
+abbrev with_rest : NamedTerms → List NamedTerms × NameLists → Read
+with_rest first rest = Ok (first ∷ rest.0, rest.1)
+
+module _ (contracts : List Data) (many : AsMany contracts) (i : ℕ) (named : List NamedTerms) (after : NameLists) where
+  with_others : (first : NamedTerms) (names : NameLists) (others : Read) → contracts_from i names contracts ≡ others → then_ok (with_rest first) others ≡ Ok (named, after) → length named ≡ suc (length contracts)
+  with_others first names (Err refusal) are is = absurd (cc)
+  with_others first names (Ok rest) are is =
+      let same = many i names rest.0 rest.1 are in
+      rw (← ap contracts_of is) (ap suc same)
+
+  with_first : (first : Result (NamedTerms × NameLists) Refusal) → then_ok (λ first. then_ok (with_rest first.0) (contracts_from i first.1 contracts)) first ≡ Ok (named, after) → length named ≡ suc (length contracts)
+  with_first (Err refusal) is = absurd (cc)
+  with_first (Ok first) is = with_others first.0 first.1 (contracts_from i first.1 contracts) refl is
+
+pub as_many_read : (contracts : List Data) → AsMany contracts
+unfolding contracts_from
+as_many_read [] i names named after is = sym (ap (λ r. length (contracts_of r)) is)
+as_many_read (d ∷ ds) i names named after is = with_first ds (as_many_read ds) (suc i) named after (refusing (refused_terms i) (contract_of i names d)) is
+
+module _ (contracts : List Data) (named : List NamedTerms) (read : NameLists) (names : NameLists) (terms : List Terms) (plans : List EventPlan) (unused : List (List (List ℕ))) where
+  module _ (are_read : contracts_from zero no_names contracts ≡ Ok (named, read)) (few : length contracts ≤ 4096) (names_are : names ≡ record read { contracts = map (λ c. c.id) named }) (terms_are : terms ≡ map (λ c. c.terms) named)
+      (planned : plans_from zero (map (λ c. c.terms) named) ≡ Ok plans) (unused_are : unused ≡ map unused_names contracts) where
+    pub whole : first_repeated [] (map (λ c. c.id) named) ≡ None → portfolio_listed contracts ≡ Ok (childless names terms plans unused)
+    whole once = accepts contracts named read are_read few once plans planned ∙ rw (names_are, terms_are, unused_are, map-map) refl
+
+    pub holds : All IsContract named → length read.codes ≤ 4 * length contracts → length read.currencies ≤ 2 * length contracts → IsAccepted names terms plans unused
+    holds known codes currencies =
+        let many = as_many_read contracts zero no_names named read are_read in
+        record {
+          kinds = λ c t here. at_place (λ t. type_of t.kind ≡ PAM) named (λ k d within. (known k d within).kind) c t (rw terms_are at here);
+          cycles = λ c t here. at_place HasCycles named (λ k d within. (known k d within).cycles) c t (rw terms_are at here);
+          planned = rw terms_are (each_planned (map (λ c. c.terms) named) zero plans planned);
+          ids = rw (names_are, terms_are) (length-map named (λ c. c.id) ∙ sym (length-map named (λ c. c.terms)));
+          unused_lists = rw (unused_are, terms_are) (omega (arith, length-map contracts unused_names, length-map named (λ c. c.terms)));
+          few = rw terms_are (omega (arith, length-map named (λ c. c.terms)));
+          few_codes = rw names_are (omega arith);
+          few_currencies = rw names_are (omega arith);
+        }

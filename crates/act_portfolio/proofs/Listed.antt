@@ -1,0 +1,30 @@
+-- The list that a JSON value is.
+use Rattle.std.proofs.Common.{◌≡◌, ℕ, suc, List, [], ◌∷◌, length, map, Some, None, Ok, refl, ap, sym, ◌∙◌}
+use Rattle.serde_json.specs.Data.{Data, null, boolean, number, string, array, object, Items}
+use Rattle.serde_json.specs.Events.{items_len}
+use Rattle.serde_json.specs.Find.{as_array}
+use Rattle.serde_json.specs.View.{items_of, items_view, view}
+use Rattle.serde_json.specs.declared.value.Value.{Value}
+use Rattle.act_portfolio.specs.Reading.{list_of, listed}
+
+listed_again : (ds : List Data) → listed (items_of ds) ≡ ds
+listed_again [] = refl
+listed_again (d ∷ ds) = ap (λ more. d ∷ more) (listed_again ds)
+
+as_many : (ds : List Data) → items_len (items_of ds) ≡ length ds
+as_many [] = refl
+as_many (d ∷ ds) = ap suc (as_many ds)
+
+pub as_many_items : (vs : List Value) → items_len (items_view vs) ≡ length (map view vs)
+as_many_items vs = as_many (map view vs)
+
+of_items : (items : Items) (vs : List Value) → Some (items_view vs) ≡ Some items → list_of (array items) ≡ Ok (map view vs)
+of_items items vs is = let e : items_view vs ≡ items = cc in rw (← e) (ap Ok (listed_again (map view vs)))
+
+pub list_is : (d : Data) (vs : List Value) → Some (items_view vs) ≡ as_array d → list_of d ≡ Ok (map view vs)
+list_is null vs is = absurd (cc)
+list_is (boolean b) vs is = absurd (cc)
+list_is (number n) vs is = absurd (cc)
+list_is (string s) vs is = absurd (cc)
+list_is (array items) vs is = of_items items vs is
+list_is (object ms) vs is = absurd (cc)

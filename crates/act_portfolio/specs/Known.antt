@@ -1,0 +1,27 @@
+-- What is known of contracts on the way to a portfolio.
+use Rattle.std.specs.Prelude.{◌≡◌, ℕ, true, false, List, [], codes, map}
+use Rattle.std.specs.Str.{bytes_eq}
+use Rattle.act_loan.specs.Cycles.{HasCycles}
+use Rattle.act_model.specs.Name.{is_name}
+use Rattle.act_model.specs.Names.{NameLists}
+use Rattle.act_model.specs.Run.{EventPlan}
+use Rattle.act_model.specs.declared.choice.ContractType.TheVariants.{PAM}
+use Rattle.act_model.specs.declared.terms.Terms.{Terms}
+use Rattle.act_profile.specs.Contract.{type_of}
+use Rattle.act_terms.specs.Contract.{NamedTerms}
+use Rattle.act_portfolio.specs.Reading.{Accepted}
+
+-- a contract whose terms are read: its name is a name and no star, and it is a PAM whose cycles lead on
+pub record IsContract (c : NamedTerms) : Type 0 where
+  pub name : is_name c.id ≡ true
+  pub no_star : bytes_eq c.id (codes "*") ≡ false
+  pub kind : type_of c.terms.kind ≡ PAM
+  pub cycles : HasCycles c.terms
+
+-- the portfolio of contracts that refer to no others
+abbrev pub childless : NameLists → List Terms → List EventPlan → List (List (List ℕ)) → Accepted
+childless names terms plans unused = record {
+  names = names;
+  contracts = record { terms = terms; plans = plans; children = map (λ t. []) terms };
+  unused = unused;
+}

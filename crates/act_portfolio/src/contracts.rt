@@ -1,0 +1,73 @@
+//! The contracts of a list, each by its terms.
+ghost use Rattle.std.specs.Prelude.{◌≡◌, ◌*◌, ◌+◌, ◌^◌, ◌<◌, ◌≤◌, [], Ok, Err, IfOk, IfErr, IfSome, OnOk, length, map, zero};
+ghost use Rattle.std.specs.List.{All};
+ghost use Rattle.serde_json.specs.View.{view};
+ghost use Rattle.act_model.specs.Names.{no_names};
+ghost use Rattle.act_terms.specs.Contract.{contract_of};
+ghost use Rattle.act_terms.specs.Names.{GrewBy, HasRoom};
+ghost use Rattle.act_portfolio.specs.Known.{IsContract};
+ghost use Rattle.act_portfolio.specs.Reading.{contracts_from};
+ghost use Rattle.act_portfolio.specs.Refusal.{refusal_of, refused_terms, refusing};
+
+use crate::fault::{PortfolioFault, refused_terms};
+use act_model::{Names, Terms};
+use act_num::NoMemory;
+use act_terms::{NamedTerms, read_contract};
+use serde_json::Value;
+use std::alloc::Global;
+
+/// The names and the terms of contracts, in their order. What the terms name is added to the names.
+pub(crate) fn read_contracts(
+    alloc: Global,
+    contracts: &[Value],
+    names: &mut Names,
+) -> Result<Vec<NamedTerms>, PortfolioFault>
+    requires few { length contracts.now ≤ 2 ^ 28 }
+    requires fresh { names.old ≡ no_names }
+    ensures read { IfOk result (λ named. contracts_from zero no_names (map view contracts.now) ≡ Ok (named.items, names.new)) }
+    ensures refused { IfErr result (λ fault. IfSome (refusal_of fault) (λ refusal.
+        contracts_from zero no_names (map view contracts.now) ≡ Err refusal)) }
+    ensures contracts { IfOk result (λ named. All IsContract named.items) }
+    ensures few_codes { OnOk result (length names.new.codes ≤ 4 * length contracts.now) }
+    ensures few_currencies { OnOk result (length names.new.currencies ≤ 2 * length contracts.now) }
+    ensures unnamed { OnOk result (names.new.contracts ≡ []) }
+{
+    let mut named = Vec::new(alloc);
+    for (number, contract) in contracts.iter().enumerate() {
+        let next = next_contract(alloc, contract, number as u32, names)?;
+        named.push(next).map_err(|_| NoMemory)?;
+    }
+    Ok(named)
+}
+
+/// The contract of that number.
+fn next_contract(
+    alloc: Global,
+    contract: &Value,
+    number: u32,
+    names: &mut Names,
+) -> Result<NamedTerms, PortfolioFault>
+    requires room { HasRoom 4 2 names.old }
+    requires number { number < 2 ^ 28 }
+    ensures read { IfOk result (λ named. contract_of number names.old (view contract.now) ≡ Ok (named, names.new)) }
+    ensures refused { IfErr result (λ fault. IfSome (refusal_of fault) (λ refusal.
+        refusing (refused_terms number) (contract_of number names.old (view contract.now)) ≡ Err refusal)) }
+    ensures contract { IfOk result (λ named. IsContract named) }
+    ensures grew { OnOk result (GrewBy 4 2 names.old names.new) }
+{
+    match read_contract(alloc, contract, number, names) {
+        Ok(named) => Ok(named),
+        Err(fault) => Err(refused_terms(alloc, number, fault)),
+    }
+}
+
+/// The terms of contracts, without their names.
+pub(crate) fn terms_alone(alloc: Global, named: Vec<NamedTerms>) -> Result<Vec<Terms>, NoMemory>
+    ensures { IfOk result (λ terms. terms.items ≡ map (λ c. c.terms) named.items) }
+{
+    let mut terms = Vec::new(alloc);
+    for contract in named {
+        terms.push(contract.terms).map_err(|_| NoMemory)?;
+    }
+    Ok(terms)
+}

@@ -1,0 +1,12 @@
+//! Portfolios: what the bytes of a file are, contract by contract, or why they are refused.
+#![tactic(auto)]
+
+mod contracts;
+mod fault;
+mod names;
+mod plans;
+mod portfolio;
+mod reading;
+
+pub use fault::PortfolioFault;
+pub use portfolio::{MOST_BYTES, Portfolio};

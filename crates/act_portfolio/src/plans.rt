@@ -1,0 +1,62 @@
+//! The plans of contracts, and the names that their objects don't use.
+ghost use Rattle.std.specs.Prelude.{◌≡◌, ◌<◌, ◌≤◌, ◌^◌, Ok, Err, IfOk, IfErr, IfSome, length, map, string_bytes, zero};
+ghost use Rattle.std.specs.List.{All};
+ghost use Rattle.serde_json.specs.View.{view};
+ghost use Rattle.act_profile.specs.Plan.{plan_of};
+ghost use Rattle.act_terms.specs.Used.{unused_names};
+ghost use Rattle.act_portfolio.specs.Known.{IsContract};
+ghost use Rattle.act_portfolio.specs.Reading.{plans_from};
+ghost use Rattle.act_portfolio.specs.Refusal.{refusal_of, refused_plan, refusing};
+
+use crate::fault::{PortfolioFault, refused_plan};
+use act_loan::schedule;
+use act_model::Plan;
+use act_num::NoMemory;
+use act_terms::{NamedTerms, unused_names};
+use serde_json::Value;
+use std::alloc::Global;
+
+/// The plans of contracts, in their order.
+pub(crate) fn plan_contracts(
+    alloc: Global,
+    named: &[NamedTerms],
+) -> Result<Vec<Plan>, PortfolioFault>
+    requires contracts { All IsContract named.now }
+    requires few { length named.now ≤ 2 ^ 28 }
+    ensures plans { IfOk result (λ plans. plans_from zero (map (λ c. c.terms) named.now) ≡ Ok plans.items) }
+    ensures refused { IfErr result (λ fault. IfSome (refusal_of fault) (λ refusal.
+        plans_from zero (map (λ c. c.terms) named.now) ≡ Err refusal)) }
+{
+    let mut plans = Vec::new(alloc);
+    for (place, contract) in named.iter().enumerate() {
+        let plan = next_plan(alloc, contract, place as u32)?;
+        plans.push(plan).map_err(|_| NoMemory)?;
+    }
+    Ok(plans)
+}
+
+/// The plan of the contract at that place from 0.
+fn next_plan(alloc: Global, contract: &NamedTerms, place: u32) -> Result<Plan, PortfolioFault>
+    requires contract { IsContract contract.now }
+    requires place { place < 2 ^ 28 }
+    ensures plan { IfOk result (λ plan. plan_of contract.now.terms ≡ Ok plan) }
+    ensures refused { IfErr result (λ fault. IfSome (refusal_of fault) (λ refusal.
+        refusing (refused_plan place) (plan_of contract.now.terms) ≡ Err refusal)) }
+{
+    match schedule(alloc, &contract.terms) {
+        Ok(plan) => Ok(plan),
+        Err(fault) => Err(refused_plan(alloc, place, fault)),
+    }
+}
+
+/// For each contract of a list, the names of its object that aren't terms of its kind.
+pub(crate) fn unused_lists(alloc: Global, contracts: &[Value]) -> Result<Vec<Vec<String>>, NoMemory>
+    ensures { IfOk result (λ unused. map (λ u. map string_bytes u.items) unused.items ≡ map unused_names (map view contracts.now)) }
+{
+    let mut lists = Vec::new(alloc);
+    for contract in contracts {
+        let unused = unused_names(alloc, contract)?;
+        lists.push(unused).map_err(|_| NoMemory)?;
+    }
+    Ok(lists)
+}

@@ -1,0 +1,131 @@
+//! Reading a portfolio file.
+ghost use Rattle.std.specs.Prelude.{◌≡◌, ◌*◌, ◌+◌, ◌^◌, ◌≤◌, Ok, Err, Some, IfOk, IfErr, IfSome, OnOk, length, map, string_bytes};
+ghost use Rattle.std.specs.Option.{ForSome};
+ghost use Rattle.serde_json.specs.Events.{items_len};
+ghost use Rattle.serde_json.specs.Find.{as_array};
+ghost use Rattle.serde_json.specs.View.{items_view, view};
+ghost use Rattle.act_json.specs.Reading.{json_of};
+ghost use Rattle.act_model.specs.Names.{no_names};
+ghost use Rattle.act_portfolio.specs.Known.{childless};
+ghost use Rattle.act_portfolio.specs.Reading.{IsAccepted, list_of, portfolio_listed, portfolio_of, within_limit};
+ghost use Rattle.act_portfolio.specs.Refusal.{no_json, refusal_of, refusing};
+
+use crate::contracts::{read_contracts, terms_alone};
+use crate::fault::{PortfolioFault, refused};
+use crate::names::name_contracts;
+use crate::plans::{plan_contracts, unused_lists};
+use crate::portfolio::{MOST_BYTES, Portfolio};
+use act_json::{JsonFault, read};
+use act_model::{Names, Plan, Terms};
+use serde_json::Value;
+use std::alloc::Global;
+
+/// The most contracts of a portfolio.
+const MOST_CONTRACTS: usize = 4_096;
+
+/// The terms of contracts, their plans, and the names that their objects don't use.
+#[derive(Drop)]
+struct Contracts {
+    terms: Vec<Terms>,
+    plans: Vec<Plan>,
+    unused: Vec<Vec<String>>,
+}
+
+/// The portfolio that the bytes of a file are.
+#[tactic(auto, unfolding(crate::specs::Reading::portfolio_of))]
+pub(crate) fn read_portfolio(alloc: Global, bytes: &[u8]) -> Result<Portfolio, PortfolioFault>
+    requires size { length bytes.now ≤ MOST_BYTES }
+    ensures accepted { IfOk result (λ portfolio. portfolio_of bytes.now ≡ Ok portfolio) }
+    ensures refused { IfErr result (λ fault. IfSome (refusal_of fault) (λ refusal. portfolio_of bytes.now ≡ Err refusal)) }
+{
+    let value = json(alloc, bytes)?;
+    let contracts = list(alloc, &value)?;
+    portfolio_listed(alloc, contracts)
+}
+
+/// The JSON value of the bytes.
+fn json(alloc: Global, bytes: &[u8]) -> Result<Value, PortfolioFault>
+    ensures value { IfOk result (λ value. json_of bytes.now ≡ Ok (view value)) }
+    ensures few { IfOk result (λ value. ForSome (as_array (view value)) (λ items. items_len items ≤ 3 * length bytes.now + 1)) }
+    ensures refused { IfErr result (λ fault. IfSome (refusal_of fault) (λ refusal.
+        refusing (λ fault. no_json) (json_of bytes.now) ≡ Err refusal)) }
+{
+    match read(alloc, bytes) {
+        Ok(value) => Ok(value),
+        Err(JsonFault::NoMemory) => Err(PortfolioFault::NoMemory),
+        Err(_) => Err(refused(alloc, 10, 0, "-")),
+    }
+}
+
+/// The list that a value is.
+fn list(alloc: Global, value: &Value) -> Result<&[Value], PortfolioFault>
+    ensures list { IfOk result (λ contracts. list_of (view value.now) ≡ Ok (map view contracts.now)) }
+    ensures items { IfOk result (λ contracts. as_array (view value.now) ≡ Some (items_view contracts.now)) }
+    ensures refused { IfErr result (λ fault. IfSome (refusal_of fault) (λ refusal. list_of (view value.now) ≡ Err refusal)) }
+{
+    match value.as_array() {
+        Some(contracts) => Ok(contracts.as_slice()),
+        None => Err(refused(alloc, 11, 0, "-")),
+    }
+}
+
+/// The portfolio of a list of contracts.
+fn portfolio_listed(alloc: Global, contracts: &[Value]) -> Result<Portfolio, PortfolioFault>
+    requires few { length contracts.now ≤ 2 ^ 28 }
+    ensures accepted { IfOk result (λ portfolio. portfolio_listed (map view contracts.now) ≡ Ok portfolio) }
+    ensures refused { IfErr result (λ fault. IfSome (refusal_of fault) (λ refusal.
+        portfolio_listed (map view contracts.now) ≡ Err refusal)) }
+{
+    let mut names = Names::new(alloc);
+    let Contracts {
+        terms,
+        plans,
+        unused,
+    } = accepted(alloc, contracts, &mut names)?;
+    Ok(Portfolio {
+        names,
+        terms,
+        plans,
+        unused,
+    })
+}
+
+/// The contracts of a list, whose names and what they name are added to the names.
+fn accepted(
+    alloc: Global,
+    contracts: &[Value],
+    names: &mut Names,
+) -> Result<Contracts, PortfolioFault>
+    requires few { length contracts.now ≤ 2 ^ 28 }
+    requires fresh { names.old ≡ no_names }
+    ensures accepted { IfOk result (λ read. portfolio_listed (map view contracts.now)
+        ≡ Ok (childless names.new read.terms.items read.plans.items (map (λ u. map string_bytes u.items) read.unused.items))) }
+    ensures holds { IfOk result (λ read.
+        IsAccepted names.new read.terms.items read.plans.items (map (λ u. map string_bytes u.items) read.unused.items)) }
+    ensures refused { IfErr result (λ fault. IfSome (refusal_of fault) (λ refusal.
+        portfolio_listed (map view contracts.now) ≡ Err refusal)) }
+{
+    let named = read_contracts(alloc, contracts, names)?;
+    within_limit(alloc, contracts)?;
+    name_contracts(alloc, &named, names)?;
+    let plans = plan_contracts(alloc, &named)?;
+    let unused = unused_lists(alloc, contracts)?;
+    let terms = terms_alone(alloc, named)?;
+    Ok(Contracts {
+        terms,
+        plans,
+        unused,
+    })
+}
+
+/// Nothing where there are no more contracts than there may be.
+fn within_limit(alloc: Global, contracts: &[Value]) -> Result<(), PortfolioFault>
+    ensures few { OnOk result (length contracts.now ≤ 4_096) }
+    ensures refused { IfErr result (λ fault. IfSome (refusal_of fault) (λ refusal.
+        within_limit (map view contracts.now) ≡ Err refusal)) }
+{
+    if contracts.len() > MOST_CONTRACTS {
+        return Err(refused(alloc, 16, 4_097, "-"));
+    }
+    Ok(())
+}

@@ -1,0 +1,4 @@
+pub mod Childless
+pub mod InPortfolio
+pub mod Observations
+pub mod TakenRows

@@ -1,0 +1,153 @@
+//! The events of a contract over a list of entries.
+ghost use Rattle.std.specs.Prelude.{◌≡◌, [], ◌∷◌, ◌++◌, IfOk, IfSome};
+ghost use Rattle.std.specs.List.{enumerate_from, flat_map};
+ghost use Rattle.act_profile.specs.Contract.{loan_of, observed_as, type_of};
+ghost use Rattle.act_profile.specs.Events.{event_observed, events_by, events_observed, events_of, events_of_entry, prepayment_events};
+
+use crate::memory::push;
+use act_date::Day;
+use act_kind::{put_in_order, retain_counting};
+use act_model::{
+    Common, ContractType, Event, EventType, Kind, Obs, ObsKind, Observed, PenaltyType, Plan,
+    Source, Terms,
+};
+use act_num::{Fixed, NoMemory};
+use std::alloc::Global;
+
+/// The events of a contract that count, in order: those of its plan, and observed ones behind the scheduled ones of the
+/// same day and type.
+pub fn events_of<O: Observed>(
+    alloc: Global,
+    terms: &Terms,
+    plan: &Plan,
+    seen: &O,
+) -> Result<Vec<Event>, NoMemory>
+    requires { type_of terms.now.kind ≡ ContractType.PAM }
+    ensures { IfOk result (λ events. events.items ≡ events_of terms.now plan.now (O.entries seen.now) []) }
+{
+    let mut events = scheduled(alloc, plan)?;
+    add_observed(alloc, &mut events, terms, seen)?;
+    put_in_order(&mut events)?;
+    Ok(retain_counting(terms, events))
+}
+
+/// The scheduled events.
+fn scheduled(alloc: Global, plan: &Plan) -> Result<Vec<Event>, NoMemory>
+    ensures { IfOk result (λ events. events.items ≡ plan.now.events) }
+{
+    match Vec::from_slice(alloc, &plan.events) {
+        Ok(events) => Ok(events),
+        Err(_) => Err(NoMemory),
+    }
+}
+
+/// Adds the observed events of a contract, in the order of the entries.
+fn add_observed<O: Observed>(
+    alloc: Global,
+    events: &mut Vec<Event>,
+    terms: &Terms,
+    seen: &O,
+) -> Result<(), NoMemory>
+    requires { type_of terms.now.kind ≡ ContractType.PAM }
+    ensures { IfOk result (λ _. events.new.items ≡ events.old.items ++ events_observed terms.now (O.entries seen.now)) }
+{
+    let entries = seen.events_of(alloc, observed_as(&terms.common))?;
+    add_all(events, &terms.kind, &entries)
+}
+
+/// Adds the events of a contract's entries, each with the entry's place among them.
+fn add_all(events: &mut Vec<Event>, kind: &Kind, entries: &[Obs]) -> Result<(), NoMemory>
+    requires { type_of kind.now ≡ ContractType.PAM }
+    ensures { IfOk result (λ _. events.new.items ≡ events.old.items ++ flat_map (events_of_entry kind.now) (enumerate_from 0 entries.now)) }
+{
+    'entries: for (place, entry) in entries.iter().enumerate() {
+        add_events(events, kind, place as u64, *entry)?;
+    }
+    Ok(())
+}
+
+/// The contract whose observed events count: a shadow has those of its underlying.
+fn observed_as(common: &Common) -> u32
+    ensures { result ≡ observed_as common.now }
+{
+    common.underlying.unwrap_or(common.contract)
+}
+
+/// Adds the events that an entry at a place makes.
+fn add_events(events: &mut Vec<Event>, kind: &Kind, place: u64, entry: Obs) -> Result<(), NoMemory>
+    requires { type_of kind.now ≡ ContractType.PAM }
+    ensures { IfOk result (λ _. events.new.items ≡ events.old.items ++ events_of_entry kind.now (place, entry)) }
+{
+    match entry {
+        Obs::Rate { .. } => Ok(()),
+        Obs::Event {
+            kind: observed,
+            day,
+            value,
+            ..
+        } => add_by(events, kind, place, observed, day, value),
+    }
+}
+
+/// Adds the events that an observation of a kind makes. Only a loan has prepayments, only a stock dividends, and an
+/// exercise moves a scheduled event.
+fn add_by(
+    events: &mut Vec<Event>,
+    kind: &Kind,
+    place: u64,
+    observed: ObsKind,
+    day: Day,
+    value: Fixed,
+) -> Result<(), NoMemory>
+    requires { type_of kind.now ≡ ContractType.PAM }
+    ensures { IfOk result (λ _. events.new.items ≡ events.old.items ++ events_by kind.now place observed day value) }
+{
+    match observed {
+        ObsKind::PP => add_prepayment(events, place, day, value, penalty_type(kind)),
+        ObsKind::DV | ObsKind::XD => Ok(()),
+        ObsKind::DL | ObsKind::DQ | ObsKind::DF => {
+            push(events, event_observed(place, EventType::CE, day, value))
+        }
+    }
+}
+
+/// Adds a prepayment, and its penalty where there is one.
+fn add_prepayment(
+    events: &mut Vec<Event>,
+    place: u64,
+    day: Day,
+    value: Fixed,
+    penalty: PenaltyType,
+) -> Result<(), NoMemory>
+    ensures { IfOk result (λ _. events.new.items ≡ events.old.items ++ prepayment_events place day value penalty) }
+{
+    push(events, event_observed(place, EventType::PP, day, value))?;
+    if penalty == PenaltyType::O {
+        return Ok(());
+    }
+    push(events, event_observed(place, EventType::PY, day, value))
+}
+
+/// How the penalty of a loan's prepayment is computed.
+fn penalty_type(kind: &Kind) -> PenaltyType
+    requires { type_of kind.now ≡ ContractType.PAM }
+    ensures { IfSome (loan_of kind.now) (λ loan. result ≡ loan.penalty_type) }
+{
+    match kind {
+        Kind::PAM(pam) => pam.loan.penalty_type,
+        _ => unreachable!(),
+    }
+}
+
+/// An event on the day of an observation, with the observation's place among those of the contract.
+fn event_observed(place: u64, kind: EventType, day: Day, value: Fixed) -> Event
+    ensures { result ≡ event_observed place kind day value }
+{
+    Event {
+        day,
+        calc: day,
+        kind,
+        value,
+        source: Source::Observed(place),
+    }
+}

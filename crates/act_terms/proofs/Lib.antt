@@ -1,0 +1,3 @@
+pub mod CodeNames
+pub mod PamTerms
+pub mod WithoutWant

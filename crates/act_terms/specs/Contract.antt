@@ -1,0 +1,59 @@
+-- A contract of a portfolio file: its name and its terms, or the first of its terms that is refused.
+use Rattle.std.specs.Prelude.{ℕ, List, codes, Option, Some, None, Result, Ok}
+use Rattle.act_json.specs.Fields.{field_of}
+use Rattle.act_model.specs.Names.{NameLists}
+use Rattle.act_model.specs.declared.choice.ContractType.{ContractType}
+use Rattle.act_model.specs.declared.choice.ContractType.TheVariants as type
+use Rattle.act_model.specs.declared.terms.Kind.TheVariants as kind
+use Rattle.act_model.specs.declared.terms.Terms.{Terms}
+use Rattle.act_terms.specs.Choices.{type_named}
+use Rattle.act_terms.specs.Common.{common_of}
+use Rattle.act_terms.specs.Fault.{◌>>=◌, no_object, refused}
+use Rattle.act_terms.specs.Fields.{needed}
+use Rattle.act_terms.specs.Loan.{pam_of}
+use Rattle.act_terms.specs.Names.{contract_id}
+use Rattle.act_terms.specs.declared.fault.TermCause.TheVariants.{NotBuilt, UnknownKind}
+use Rattle.act_terms.specs.declared.fault.TermsFault.{TermsFault}
+use Rattle.serde_json.specs.Data.{Data, object}
+
+-- a contract's name and terms
+pub record NamedTerms : Type 0 where
+  pub id : List ℕ
+  pub terms : Terms
+
+-- the type that a text names
+abbrev pub type_or_refusal : Option ContractType → Result ContractType TermsFault
+type_or_refusal None = refused UnknownKind (codes "contractType")
+type_or_refusal (Some type) = Ok type
+
+-- contractType
+unfoldable pub contract_type : Data → Result ContractType TermsFault
+contract_type contract = do
+  text ← needed (codes "contractType") (field_of (codes "contractType") contract)
+  type_or_refusal (type_named text)
+
+-- the terms of a PAM
+unfoldable pub pam_terms_of : ℕ → NameLists → Data → Result (Terms × NameLists) TermsFault
+pam_terms_of number names contract = do
+  common ← common_of number names contract
+  pam ← pam_of common.1 contract
+  Ok (record { common = common.0; kind = kind.PAM pam.0 }, pam.1)
+
+-- the terms of a type; those of another type than PAM aren't read yet
+unfoldable pub terms_of : ContractType → ℕ → NameLists → Data → Result (Terms × NameLists) TermsFault
+terms_of type.PAM number names contract = pam_terms_of number names contract
+terms_of other number names contract = refused NotBuilt (codes "contractType")
+
+-- the name and the terms of an object
+unfoldable pub named_terms_of : ℕ → NameLists → Data → Result (NamedTerms × NameLists) TermsFault
+named_terms_of number names contract = do
+  id ← contract_id contract
+  type ← contract_type contract
+  terms ← terms_of type number names contract
+  Ok (record { id = id; terms = terms.0 }, terms.1)
+
+-- the contract of that number among the names of those before it, and the names with those that its terms give; or the first of its terms
+-- that is refused
+unfoldable pub contract_of : ℕ → NameLists → Data → Result (NamedTerms × NameLists) TermsFault
+contract_of number names (object members) = named_terms_of number names (object members)
+contract_of number names other = no_object

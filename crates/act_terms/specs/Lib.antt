@@ -1,0 +1,10 @@
+pub mod Choices
+pub mod Common
+pub mod Contract
+pub mod Cycles
+pub mod Fault
+pub mod Fields
+pub mod Loan
+pub mod Names
+pub mod Refusal
+pub mod Used

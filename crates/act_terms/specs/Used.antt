@@ -1,0 +1,38 @@
+-- Which names of a contract's object are terms of its kind. ACTUS data dictionary.
+use Rattle.std.specs.Prelude.{ℕ, not, Bool, List, [], ◌∷◌, ◌++◌, codes}
+use Rattle.std.specs.List.{filter, list_any}
+use Rattle.std.specs.Str.{bytes_eq}
+use Rattle.serde_json.specs.Data.{Data, object, Members, no_members, member}
+
+-- the terms that every contract has, in the order in which they are read
+abbrev pub common_terms : List (List ℕ)
+common_terms =
+    codes "contractID" ∷ codes "contractType" ∷ codes "contractRole" ∷ codes "statusDate" ∷ codes "currency" ∷ codes "settlementCurrency" ∷ codes "calendar" ∷ codes "businessDayConvention" ∷ codes "endOfMonthConvention"
+    ∷ codes "marketObjectCode" ∷ codes "purchaseDate" ∷ codes "priceAtPurchaseDate" ∷ codes "terminationDate" ∷ codes "priceAtTerminationDate" ∷ []
+
+-- the terms of every loan
+abbrev pub loan_terms : List (List ℕ)
+loan_terms =
+    codes "initialExchangeDate" ∷ codes "maturityDate" ∷ codes "notionalPrincipal" ∷ codes "nominalInterestRate" ∷ codes "accruedInterest" ∷ codes "premiumDiscountAtIED" ∷ codes "dayCountConvention"
+    ∷ codes "cycleAnchorDateOfInterestPayment" ∷ codes "cycleOfInterestPayment" ∷ codes "capitalizationEndDate" ∷ codes "cycleAnchorDateOfRateReset" ∷ codes "cycleOfRateReset" ∷ codes "marketObjectCodeOfRateReset"
+    ∷ codes "nextResetRate" ∷ codes "rateSpread" ∷ codes "rateMultiplier" ∷ codes "lifeCap" ∷ codes "lifeFloor" ∷ codes "periodCap" ∷ codes "periodFloor" ∷ codes "cycleAnchorDateOfFee" ∷ codes "cycleOfFee" ∷ codes "feeRate"
+    ∷ codes "feeBasis" ∷ codes "feeAccrued" ∷ codes "scalingEffect" ∷ codes "cycleAnchorDateOfScalingIndex" ∷ codes "cycleOfScalingIndex" ∷ codes "marketObjectCodeOfScalingIndex" ∷ codes "scalingIndexAtContractDealDate"
+    ∷ codes "penaltyType" ∷ codes "penaltyRate" ∷ []
+
+-- a name is one of some names
+abbrev pub is_among : List (List ℕ) → List ℕ → Bool
+is_among names name = list_any (λ n. bytes_eq n name) names
+
+-- a name is a term of a PAM
+unfoldable pub is_pam_term : List ℕ → Bool
+is_pam_term name = is_among (common_terms ++ loan_terms) name
+
+-- the names of an object, which has each once, in byte order
+abbrev pub member_names : Members → List (List ℕ)
+member_names no_members = []
+member_names (member name value members) = name ∷ member_names members
+
+-- the names of a contract's object that aren't terms of its kind, in byte order
+unfoldable pub unused_names : Data → List (List ℕ)
+unused_names (object members) = filter (λ name. not (is_pam_term name)) (member_names members)
+unused_names other = []

@@ -1,0 +1,120 @@
+//! The terms that every contract has.
+ghost use Rattle.std.specs.Prelude.{◌≡◌, ◌≢◌, Ok, Err, IfOk, IfErr, OnOk};
+ghost use Rattle.serde_json.specs.View.{view};
+ghost use Rattle.act_terms.specs.Common.{business_days_of, common_of, position_of, trades_of};
+ghost use Rattle.act_terms.specs.Names.{GrewBy, HasRoom};
+
+use crate::choices::{calendar, convention, month_rule, role};
+use crate::currencies::{code_where, read_currencies};
+use crate::fault::TermsFault;
+use crate::fields::{needed, needed_day, optional, optional_day, optional_decimal};
+use act_date::{Calendar, Convention, Day, MonthRule};
+use act_model::{Common, ContractRole, Names};
+use act_num::Fixed;
+use serde_json::Value;
+use std::alloc::Global;
+
+/// The role, and the day as of which the terms are given.
+#[derive(Clone, Copy)]
+struct Position {
+    contract_role: ContractRole,
+    status_date: Day,
+}
+
+/// The calendar and the conventions.
+#[derive(Clone, Copy)]
+struct BusinessDays {
+    calendar: Calendar,
+    business_day_convention: Convention,
+    end_of_month_convention: MonthRule,
+}
+
+/// Purchase and termination.
+#[derive(Clone, Copy)]
+struct Trades {
+    purchase_date: Option<Day>,
+    price_at_purchase_date: Fixed,
+    termination_date: Option<Day>,
+    price_at_termination_date: Fixed,
+}
+
+/// The common terms of the contract of that number.
+#[tactic(auto, unfolding(crate::specs::Common::common_of))]
+pub(crate) fn read_common(
+    alloc: Global,
+    contract: &Value,
+    number: u32,
+    names: &mut Names,
+) -> Result<Common, TermsFault>
+    requires room { HasRoom 2 2 names.old }
+    ensures read { IfOk result (λ common. common_of number names.old (view contract.now) ≡ Ok (common, names.new)) }
+    ensures refused { IfErr result (λ fault. fault ≢ TermsFault.NoMemory
+        → common_of number names.old (view contract.now) ≡ Err fault) }
+    ensures grew { OnOk result (GrewBy 2 2 names.old names.new) }
+{
+    let position = read_position(alloc, contract)?;
+    let money = read_currencies(alloc, contract, names)?;
+    let days = read_business_days(alloc, contract)?;
+    let market_object_code = code_where(alloc, false, "marketObjectCode", contract, names)?;
+    let trades = read_trades(contract)?;
+    Ok(Common {
+        contract: number,
+        underlying: None,
+        factor: money.factor,
+        contract_role: position.contract_role,
+        status_date: position.status_date,
+        currency: money.currency,
+        settlement_currency: money.settlement_currency,
+        calendar: days.calendar,
+        business_day_convention: days.business_day_convention,
+        end_of_month_convention: days.end_of_month_convention,
+        market_object_code,
+        purchase_date: trades.purchase_date,
+        price_at_purchase_date: trades.price_at_purchase_date,
+        termination_date: trades.termination_date,
+        price_at_termination_date: trades.price_at_termination_date,
+    })
+}
+
+/// The role, and the day as of which the terms are given.
+#[tactic(auto, unfolding(crate::specs::Common::position_of))]
+fn read_position(alloc: Global, contract: &Value) -> Result<Position, TermsFault>
+    ensures { result ≢ Err TermsFault.NoMemory → result ≡ position_of (view contract.now) }
+{
+    Ok(Position {
+        contract_role: needed("contractRole", role(alloc, contract))?,
+        status_date: needed_day(contract, "statusDate")?,
+    })
+}
+
+/// The calendar and the conventions.
+#[tactic(auto, unfolding(crate::specs::Common::business_days_of))]
+fn read_business_days(alloc: Global, contract: &Value) -> Result<BusinessDays, TermsFault>
+    ensures { result ≢ Err TermsFault.NoMemory → result ≡ business_days_of (view contract.now) }
+{
+    let calendar = optional("calendar", calendar(alloc, contract))?;
+    let convention = optional("businessDayConvention", convention(alloc, contract))?;
+    let month_rule = optional("endOfMonthConvention", month_rule(alloc, contract))?;
+    Ok(BusinessDays {
+        calendar: calendar.unwrap_or(Calendar::Nc),
+        business_day_convention: convention.unwrap_or(Convention::Nos),
+        end_of_month_convention: month_rule.unwrap_or(MonthRule::Sd),
+    })
+}
+
+/// Purchase and termination.
+#[tactic(auto, unfolding(crate::specs::Common::trades_of))]
+fn read_trades(contract: &Value) -> Result<Trades, TermsFault>
+    ensures { result ≡ trades_of (view contract.now) }
+{
+    let purchase = optional_day(contract, "purchaseDate")?;
+    let purchase_price = optional_decimal(contract, "priceAtPurchaseDate")?;
+    let termination = optional_day(contract, "terminationDate")?;
+    let termination_price = optional_decimal(contract, "priceAtTerminationDate")?;
+    Ok(Trades {
+        purchase_date: purchase,
+        price_at_purchase_date: purchase_price.unwrap_or(Fixed::ZERO),
+        termination_date: termination,
+        price_at_termination_date: termination_price.unwrap_or(Fixed::ZERO),
+    })
+}

@@ -1,0 +1,153 @@
+//! A contract of a portfolio file.
+ghost use Rattle.std.specs.Prelude.{◌≡◌, ◌≢◌, Ok, Err, IfOk, IfErr, OnOk, codes, true, false};
+ghost use Rattle.std.specs.Str.{bytes_eq};
+ghost use Rattle.serde_json.specs.View.{view};
+ghost use Rattle.act_loan.specs.Cycles.{HasCycles};
+ghost use Rattle.act_model.specs.Name.{is_name};
+ghost use Rattle.act_profile.specs.Contract.{type_of};
+ghost use Rattle.act_terms.specs.Contract.{contract_of, contract_type, named_terms_of, pam_terms_of, terms_of};
+ghost use Rattle.act_terms.specs.Names.{GrewBy, HasRoom};
+
+use crate::choices::type_named;
+use crate::common::read_common;
+use crate::currencies::contract_id;
+use crate::fault::{TermCause, TermsFault, refused};
+use crate::fields::needed;
+use crate::loan::read_pam;
+use act_json::text;
+use act_model::{ContractType, Kind, Names, Terms};
+use serde_json::Value;
+use std::alloc::Global;
+use std::marker::Model;
+
+/// A contract's name and terms.
+#[derive(Drop)]
+pub struct NamedTerms {
+    /// The name, which is no star. It isn't among the names yet.
+    pub id: String,
+    /// The terms. Days count from 1970-01-01, and decimals are in units of 10^-9.
+    pub terms: Terms,
+}
+
+impl Model for NamedTerms {
+    ghost use Rattle.std.specs.Prelude.{string_bytes};
+    ghost use Rattle.act_terms.specs.Contract.{NamedTerms};
+
+    ghost Value = { NamedTerms };
+
+    ghost view = { λ c. record { id = string_bytes c.id; terms = c.terms } };
+}
+
+/// The contract of that number, from its JSON object: its name and its terms, each by its name in the dictionary. Names
+/// that aren't terms of its kind are passed over; [`unused_names`] has them. The codes and currencies that the terms
+/// name have their numbers among `names`, behind those of the contracts before; at most four codes and two currencies
+/// are added, and room for them is required. The contract's own name isn't added.
+///
+/// Refused where a term is, with the first one in the order of the dictionary's tables, those of all contracts before
+/// those of the kind; that a penalty of lost interest needs the code of the reset rate is tried last. NoMemory where
+/// memory runs out. In either case codes and currencies may have been added.
+#[tactic(auto, unfolding(crate::specs::Contract::contract_of))]
+pub fn read_contract(
+    alloc: Global,
+    contract: &Value,
+    number: u32,
+    names: &mut Names,
+) -> Result<NamedTerms, TermsFault>
+    requires room { HasRoom 4 2 names.old }
+    ensures read { IfOk result (λ named. contract_of number names.old (view contract.now) ≡ Ok (named, names.new)) }
+    ensures refused { IfErr result (λ fault. fault ≢ TermsFault.NoMemory
+        → contract_of number names.old (view contract.now) ≡ Err fault) }
+    ensures name { IfOk result (λ named. is_name named.id ≡ true) }
+    ensures no_star { IfOk result (λ named. bytes_eq named.id (codes "*") ≡ false) }
+    ensures kind { IfOk result (λ named. type_of named.terms.kind ≡ ContractType.PAM) }
+    ensures cycles { IfOk result (λ named. HasCycles named.terms) }
+    ensures grew { OnOk result (GrewBy 4 2 names.old names.new) }
+{
+    if !contract.is_object() {
+        return Err(refused(TermCause::WrongShape, "-"));
+    }
+    read_named_terms(alloc, contract, number, names)
+}
+
+/// The name and the terms of an object.
+#[tactic(auto, unfolding(crate::specs::Contract::named_terms_of))]
+fn read_named_terms(
+    alloc: Global,
+    contract: &Value,
+    number: u32,
+    names: &mut Names,
+) -> Result<NamedTerms, TermsFault>
+    requires room { HasRoom 4 2 names.old }
+    ensures read { IfOk result (λ named. named_terms_of number names.old (view contract.now) ≡ Ok (named, names.new)) }
+    ensures refused { IfErr result (λ fault. fault ≢ TermsFault.NoMemory
+        → named_terms_of number names.old (view contract.now) ≡ Err fault) }
+    ensures name { IfOk result (λ named. is_name named.id ≡ true) }
+    ensures no_star { IfOk result (λ named. bytes_eq named.id (codes "*") ≡ false) }
+    ensures kind { IfOk result (λ named. type_of named.terms.kind ≡ ContractType.PAM) }
+    ensures cycles { IfOk result (λ named. HasCycles named.terms) }
+    ensures grew { OnOk result (GrewBy 4 2 names.old names.new) }
+{
+    let id = contract_id(alloc, contract)?;
+    let contract_type = contract_type(alloc, contract)?;
+    let terms = read_terms(alloc, contract_type, contract, number, names)?;
+    Ok(NamedTerms { id, terms })
+}
+
+/// The type of a contract.
+#[tactic(auto, unfolding(crate::specs::Contract::contract_type))]
+fn contract_type(alloc: Global, contract: &Value) -> Result<ContractType, TermsFault>
+    ensures { result ≢ Err TermsFault.NoMemory → result ≡ contract_type (view contract.now) }
+{
+    let text = needed("contractType", text(alloc, contract, "contractType"))?;
+    match type_named(text.as_str()) {
+        Some(contract_type) => Ok(contract_type),
+        None => Err(refused(TermCause::UnknownKind, "contractType")),
+    }
+}
+
+/// The terms of a type; those of another type than PAM aren't read yet.
+#[tactic(auto, unfolding(crate::specs::Contract::terms_of))]
+fn read_terms(
+    alloc: Global,
+    contract_type: ContractType,
+    contract: &Value,
+    number: u32,
+    names: &mut Names,
+) -> Result<Terms, TermsFault>
+    requires room { HasRoom 4 2 names.old }
+    ensures read { IfOk result (λ terms. terms_of contract_type number names.old (view contract.now) ≡ Ok (terms, names.new)) }
+    ensures refused { IfErr result (λ fault. fault ≢ TermsFault.NoMemory
+        → terms_of contract_type number names.old (view contract.now) ≡ Err fault) }
+    ensures kind { IfOk result (λ terms. type_of terms.kind ≡ ContractType.PAM) }
+    ensures cycles { IfOk result (λ terms. HasCycles terms) }
+    ensures grew { OnOk result (GrewBy 4 2 names.old names.new) }
+{
+    match contract_type {
+        ContractType::PAM => read_pam_terms(alloc, contract, number, names),
+        _ => Err(refused(TermCause::NotBuilt, "contractType")),
+    }
+}
+
+/// The terms of a PAM.
+#[tactic(auto, unfolding(crate::specs::Contract::pam_terms_of))]
+fn read_pam_terms(
+    alloc: Global,
+    contract: &Value,
+    number: u32,
+    names: &mut Names,
+) -> Result<Terms, TermsFault>
+    requires room { HasRoom 4 2 names.old }
+    ensures read { IfOk result (λ terms. pam_terms_of number names.old (view contract.now) ≡ Ok (terms, names.new)) }
+    ensures refused { IfErr result (λ fault. fault ≢ TermsFault.NoMemory
+        → pam_terms_of number names.old (view contract.now) ≡ Err fault) }
+    ensures kind { IfOk result (λ terms. type_of terms.kind ≡ ContractType.PAM) }
+    ensures cycles { IfOk result (λ terms. HasCycles terms) }
+    ensures grew { OnOk result (GrewBy 4 2 names.old names.new) }
+{
+    let common = read_common(alloc, contract, number, names)?;
+    let pam = read_pam(alloc, contract, names)?;
+    Ok(Terms {
+        common,
+        kind: Kind::PAM(pam),
+    })
+}

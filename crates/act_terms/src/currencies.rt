@@ -1,0 +1,159 @@
+//! The names that terms give, and their numbers.
+ghost use Rattle.std.specs.Prelude.{◌≡◌, ◌≢◌, ◌++◌, Ok, Err, Some, true, false, IfOk, IfErr, OnOk, codes, option_map, string_bytes};
+ghost use Rattle.std.specs.Str.{bytes_eq};
+ghost use Rattle.serde_json.specs.View.{view};
+ghost use Rattle.act_json.specs.Results.{result_map};
+ghost use Rattle.std.specs.Option.{ForSome};
+ghost use Rattle.act_model.specs.Name.{is_currency, is_name};
+ghost use Rattle.act_terms.specs.Fault.{read_map};
+ghost use Rattle.act_terms.specs.Names.{GrewBy, HasRoom, code_where, contract_id, currencies_of, currency_field, id_named, numbered, numbered_currencies, pair_name, with_currency, with_factor};
+
+use crate::fault::{TermCause, TermsFault, refused};
+use crate::fields::{needed, needed_where, optional};
+use act_json::{JsonFault, word};
+use act_model::{Names, is_currency};
+use act_num::NoMemory;
+use serde_json::Value;
+use std::alloc::Global;
+use std::marker::Model;
+
+/// The currencies of a contract, and the code of the rate between them.
+#[derive(Clone, Copy)]
+pub(crate) struct Currencies {
+    /// The currency of the amounts.
+    pub(crate) currency: u32,
+    /// The one in which they are settled, where it is given.
+    pub(crate) settlement_currency: Option<u32>,
+    /// The number of the code CUR/SETTLEMENT, where the two differ.
+    pub(crate) factor: Option<u32>,
+}
+
+/// The contract's name: any name but a star.
+#[tactic(auto, unfolding(crate::specs::Names::contract_id))]
+pub(crate) fn contract_id(alloc: Global, contract: &Value) -> Result<String, TermsFault>
+    ensures id { result ≢ Err TermsFault.NoMemory → read_map string_bytes result ≡ contract_id (view contract.now) }
+    ensures name { IfOk result (λ id. is_name (string_bytes id) ≡ true) }
+    ensures no_star { IfOk result (λ id. bytes_eq (string_bytes id) (codes "*") ≡ false) }
+{
+    let id = needed("contractID", word(alloc, contract, "contractID"))?;
+    if id.as_str() == "*" {
+        return Err(refused(TermCause::BadName, "contractID"));
+    }
+    Ok(id)
+}
+
+/// The number of the market object that a term names, which is required where something holds.
+#[tactic(auto, unfolding(crate::specs::Names::code_where))]
+pub(crate) fn code_where(
+    alloc: Global,
+    wanted: bool,
+    term: &'static str,
+    contract: &Value,
+    names: &mut Names,
+) -> Result<Option<u32>, TermsFault>
+    requires room { HasRoom 1 0 names.old }
+    ensures read { IfOk result (λ code. code_where wanted term.now names.old (view contract.now) ≡ Ok (code, names.new)) }
+    ensures refused { IfErr result (λ fault. fault ≢ TermsFault.NoMemory
+        → code_where wanted term.now names.old (view contract.now) ≡ Err fault) }
+    ensures grew { OnOk result (GrewBy 1 0 names.old names.new) }
+{
+    match needed_where(wanted, term, word(alloc, contract, term))? {
+        Some(code) => Ok(Some(names.intern_code(code.as_str())?)),
+        None => Ok(None),
+    }
+}
+
+/// The currency of the amounts, the one in which they are settled, and the code of the rate between them where they
+/// differ.
+#[tactic(auto, using(crate::proofs::CodeNames::currency_is_name), unfolding(crate::specs::Names::currencies_of))]
+pub(crate) fn read_currencies(
+    alloc: Global,
+    contract: &Value,
+    names: &mut Names,
+) -> Result<Currencies, TermsFault>
+    requires room { HasRoom 1 2 names.old }
+    ensures read { IfOk result (λ money. currencies_of names.old (view contract.now) ≡ Ok (money, names.new)) }
+    ensures refused { IfErr result (λ fault. fault ≢ TermsFault.NoMemory
+        → currencies_of names.old (view contract.now) ≡ Err fault) }
+    ensures grew { OnOk result (GrewBy 1 2 names.old names.new) }
+{
+    let currency = needed("currency", currency_field(alloc, contract, "currency"))?;
+    let settlement = optional(
+        "settlementCurrency",
+        currency_field(alloc, contract, "settlementCurrency"),
+    )?;
+    match settlement {
+        Some(settlement) => { Ok(settled(alloc, currency.as_str(), settlement.as_str(), names)?) }
+        None => Ok(Currencies {
+            currency: names.intern_currency(currency.as_str())?,
+            settlement_currency: None,
+            factor: None,
+        }),
+    }
+}
+
+/// The numbers of two currencies, and of the code of the rate between them where they differ.
+#[tactic(auto, using(crate::proofs::CodeNames::currency_is_name))]
+fn settled(
+    alloc: Global,
+    currency: &str,
+    settlement: &str,
+    names: &mut Names,
+) -> Result<Currencies, NoMemory>
+    requires room { HasRoom 1 2 names.old }
+    requires currency { is_currency currency.now ≡ true }
+    requires settlement { is_currency settlement.now ≡ true }
+    ensures numbered { IfOk result (λ money. numbered_currencies currency.now (Some settlement.now) names.old ≡ (money, names.new)) }
+    ensures grew { OnOk result (GrewBy 1 2 names.old names.new) }
+{
+    let first = names.intern_currency(currency)?;
+    let second = names.intern_currency(settlement)?;
+    Ok(Currencies {
+        currency: first,
+        settlement_currency: Some(second),
+        factor: factor(alloc, currency, settlement, names)?,
+    })
+}
+
+/// The number of the code of the rate between two currencies, where they differ.
+#[tactic(auto, using(crate::proofs::CodeNames::pair_is_name))]
+fn factor(
+    alloc: Global,
+    currency: &str,
+    settlement: &str,
+    names: &mut Names,
+) -> Result<Option<u32>, NoMemory>
+    requires room { HasRoom 1 0 names.old }
+    requires currency { is_currency currency.now ≡ true }
+    requires settlement { is_currency settlement.now ≡ true }
+    ensures numbered { IfOk result (λ code. with_factor currency.now settlement.now names.old ≡ (code, names.new)) }
+    ensures grew { OnOk result (GrewBy 1 0 names.old names.new) }
+{
+    if currency == settlement {
+        return Ok(None);
+    }
+    let pair = pair_name(alloc, currency, settlement)?;
+    Ok(Some(names.intern_code(pair.as_str())?))
+}
+
+/// The name of the rate between two currencies, as `EUR/USD`.
+fn pair_name(alloc: Global, currency: &str, other: &str) -> Result<String, NoMemory>
+    ensures { IfOk result (λ pair. string_bytes pair ≡ pair_name currency.now other.now) }
+{
+    let mut pair = String::from_str(alloc, currency).map_err(|_| NoMemory)?;
+    pair.push_str("/").map_err(|_| NoMemory)?;
+    pair.push_str(other).map_err(|_| NoMemory)?;
+    Ok(pair)
+}
+
+/// The currency that a term names. BadName where the text is none.
+fn currency_field(alloc: Global, contract: &Value, term: &str) -> Result<Option<String>, JsonFault>
+    ensures field { result ≢ Err JsonFault.NoMemory
+        → result_map (option_map string_bytes) result ≡ currency_field term.now (view contract.now) }
+    ensures name { IfOk result (λ found. ForSome found (λ currency. is_currency (string_bytes currency) ≡ true)) }
+{
+    match word(alloc, contract, term)? {
+        Some(currency) if !is_currency(currency.as_str()) => Err(JsonFault::BadName),
+        found => Ok(found),
+    }
+}

@@ -1,0 +1,125 @@
+//! Terms that are required, that may be left out, and that have a bound.
+ghost use Rattle.std.specs.Prelude.{◌≡◌, IfOk};
+ghost use Rattle.serde_json.specs.View.{view};
+ghost use Rattle.act_loan.specs.Cycles.{LeadsOn};
+ghost use Rattle.act_terms.specs.Fields.{day_after, needed, needed_day, needed_where, not_negative, optional, optional_cycle, optional_day, optional_decimal, positive};
+
+use crate::fault::{TermCause, TermsFault, fault_at, refused};
+use act_date::{Cycle, Day};
+use act_json::{JsonFault, cycle, day, decimal};
+use act_num::Fixed;
+use serde_json::Value;
+
+/// What a term that may be left out gives.
+pub(crate) fn optional<T>(
+    term: &'static str,
+    found: Result<Option<T>, JsonFault>,
+) -> Result<Option<T>, TermsFault>
+    ensures { result ≡ optional term.now found }
+{
+    match found {
+        Ok(found) => Ok(found),
+        Err(fault) => Err(fault_at(term, fault)),
+    }
+}
+
+/// What a term gives that is required.
+pub(crate) fn needed<T>(
+    term: &'static str,
+    found: Result<Option<T>, JsonFault>,
+) -> Result<T, TermsFault>
+    ensures { result ≡ needed term.now found }
+{
+    match found {
+        Ok(Some(value)) => Ok(value),
+        Ok(None) => Err(refused(TermCause::MissingTerm, term)),
+        Err(fault) => Err(fault_at(term, fault)),
+    }
+}
+
+/// What a term gives that is required where something holds.
+pub(crate) fn needed_where<T>(
+    wanted: bool,
+    term: &'static str,
+    found: Result<Option<T>, JsonFault>,
+) -> Result<Option<T>, TermsFault>
+    ensures { result ≡ needed_where wanted term.now found }
+{
+    match found {
+        Ok(None) if wanted => Err(refused(TermCause::MissingTerm, term)),
+        Ok(found) => Ok(found),
+        Err(fault) => Err(fault_at(term, fault)),
+    }
+}
+
+/// The day of a term that may be left out.
+#[tactic(auto, unfolding(crate::specs::Fields::optional_day))]
+pub(crate) fn optional_day(contract: &Value, term: &'static str) -> Result<Option<Day>, TermsFault>
+    ensures { result ≡ optional_day term.now (view contract.now) }
+{
+    optional(term, day(contract, term))
+}
+
+/// The number of a term that may be left out.
+#[tactic(auto, unfolding(crate::specs::Fields::optional_decimal))]
+pub(crate) fn optional_decimal(
+    contract: &Value,
+    term: &'static str,
+) -> Result<Option<Fixed>, TermsFault>
+    ensures { result ≡ optional_decimal term.now (view contract.now) }
+{
+    optional(term, decimal(contract, term))
+}
+
+/// The cycle of a term that may be left out; its period has at least one unit.
+#[tactic(auto, unfolding(crate::specs::Fields::optional_cycle))]
+pub(crate) fn optional_cycle(
+    contract: &Value,
+    term: &'static str,
+) -> Result<Option<Cycle>, TermsFault>
+    ensures cycle { result ≡ optional_cycle term.now (view contract.now) }
+    ensures leads_on { IfOk result (λ found. LeadsOn found) }
+{
+    optional(term, cycle(contract, term))
+}
+
+/// The day of a term that is required.
+#[tactic(auto, unfolding(crate::specs::Fields::needed_day))]
+pub(crate) fn needed_day(contract: &Value, term: &'static str) -> Result<Day, TermsFault>
+    ensures { result ≡ needed_day term.now (view contract.now) }
+{
+    needed(term, day(contract, term))
+}
+
+/// A day after another one, or BadValue.
+#[tactic(auto, unfolding(crate::specs::Fields::day_after))]
+pub(crate) fn day_after(first: Day, contract: &Value, term: &str) -> Result<Option<Day>, JsonFault>
+    ensures { result ≡ day_after first term.now (view contract.now) }
+{
+    match day(contract, term)? {
+        Some(found) if found <= first => Err(JsonFault::BadValue),
+        found => Ok(found),
+    }
+}
+
+/// A number that isn't negative, or BadValue.
+#[tactic(auto, unfolding(crate::specs::Fields::not_negative))]
+pub(crate) fn not_negative(contract: &Value, term: &str) -> Result<Option<Fixed>, JsonFault>
+    ensures { result ≡ not_negative term.now (view contract.now) }
+{
+    match decimal(contract, term)? {
+        Some(found) if found < Fixed::ZERO => Err(JsonFault::BadValue),
+        found => Ok(found),
+    }
+}
+
+/// A number above 0, or BadValue.
+#[tactic(auto, unfolding(crate::specs::Fields::positive))]
+pub(crate) fn positive(contract: &Value, term: &str) -> Result<Option<Fixed>, JsonFault>
+    ensures { result ≡ positive term.now (view contract.now) }
+{
+    match decimal(contract, term)? {
+        Some(found) if found <= Fixed::ZERO => Err(JsonFault::BadValue),
+        found => Ok(found),
+    }
+}

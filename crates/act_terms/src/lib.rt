@@ -1,0 +1,21 @@
+//! The terms of one contract, read from its JSON object: each by its name, in the order of the ACTUS data dictionary's
+//! tables, up to the first that is refused. So far the terms of a PAM are read; another type is refused as not built.
+#![tactic(auto)]
+
+mod choices;
+mod common;
+mod contract;
+mod currencies;
+mod fault;
+mod fee;
+mod fields;
+mod interest;
+mod loan;
+mod penalty;
+mod reset;
+mod scaling;
+mod used;
+
+pub use contract::{NamedTerms, read_contract};
+pub use fault::{TermCause, TermFault, TermsFault};
+pub use used::unused_names;

@@ -1,0 +1,91 @@
+//! The terms of loans.
+ghost use Rattle.std.specs.Prelude.{◌≡◌, ◌≢◌, Ok, Err, IfOk, IfErr, OnOk};
+ghost use Rattle.serde_json.specs.View.{view};
+ghost use Rattle.act_terms.specs.Loan.{loan_of, pam_of};
+ghost use Rattle.act_terms.specs.Cycles.{LoanLeadsOn};
+ghost use Rattle.act_terms.specs.Names.{GrewBy, HasRoom};
+
+use crate::fault::TermsFault;
+use crate::fee::read_fee;
+use crate::fields::{day_after, needed, needed_day, not_negative};
+use crate::interest::{read_interest, read_interest_dates};
+use crate::penalty::{read_penalty, reset_code_for};
+use crate::reset::read_rate_reset;
+use crate::scaling::read_scaling;
+use act_date::Day;
+use act_model::{Loan, Names, Pam};
+use serde_json::Value;
+use std::alloc::Global;
+
+/// The terms of a PAM.
+#[tactic(auto, unfolding(crate::specs::Loan::pam_of))]
+pub(crate) fn read_pam(
+    alloc: Global,
+    contract: &Value,
+    names: &mut Names,
+) -> Result<Pam, TermsFault>
+    requires room { HasRoom 2 0 names.old }
+    ensures read { IfOk result (λ pam. pam_of names.old (view contract.now) ≡ Ok (pam, names.new)) }
+    ensures refused { IfErr result (λ fault. fault ≢ TermsFault.NoMemory
+        → pam_of names.old (view contract.now) ≡ Err fault) }
+    ensures cycles { IfOk result (λ pam. LoanLeadsOn pam.loan) }
+    ensures grew { OnOk result (GrewBy 2 0 names.old names.new) }
+{
+    let exchange = needed_day(contract, "initialExchangeDate")?;
+    let maturity_date = needed(
+        "maturityDate",
+        day_after(exchange, contract, "maturityDate"),
+    )?;
+    let loan = read_loan(alloc, exchange, contract, names)?;
+    Ok(Pam {
+        maturity_date,
+        loan,
+    })
+}
+
+/// The terms of a loan of that initial exchange behind its maturity.
+#[tactic(auto, unfolding(crate::specs::Loan::loan_of))]
+fn read_loan(
+    alloc: Global,
+    exchange: Day,
+    contract: &Value,
+    names: &mut Names,
+) -> Result<Loan, TermsFault>
+    requires room { HasRoom 2 0 names.old }
+    ensures read { IfOk result (λ loan. loan_of exchange names.old (view contract.now) ≡ Ok (loan, names.new)) }
+    ensures refused { IfErr result (λ fault. fault ≢ TermsFault.NoMemory
+        → loan_of exchange names.old (view contract.now) ≡ Err fault) }
+    ensures cycles { IfOk result (λ loan. LoanLeadsOn loan) }
+    ensures grew { OnOk result (GrewBy 2 0 names.old names.new) }
+{
+    let notional_principal = needed(
+        "notionalPrincipal",
+        not_negative(contract, "notionalPrincipal"),
+    )?;
+    let interest = read_interest(alloc, contract)?;
+    let dates = read_interest_dates(contract)?;
+    let rate_reset = read_rate_reset(alloc, contract, names)?;
+    let fee = read_fee(alloc, contract)?;
+    let scaling = read_scaling(alloc, contract, names)?;
+    let penalty = read_penalty(alloc, contract)?;
+    reset_code_for(
+        penalty.penalty_type,
+        rate_reset.market_object_code_of_rate_reset,
+    )?;
+    Ok(Loan {
+        initial_exchange_date: exchange,
+        notional_principal,
+        nominal_interest_rate: interest.nominal_interest_rate,
+        accrued_interest: interest.accrued_interest,
+        premium_discount_at_ied: interest.premium_discount_at_ied,
+        day_count_convention: interest.day_count_convention,
+        cycle_anchor_date_of_interest_payment: dates.cycle_anchor_date_of_interest_payment,
+        cycle_of_interest_payment: dates.cycle_of_interest_payment,
+        capitalization_end_date: dates.capitalization_end_date,
+        rate_reset,
+        fee,
+        scaling,
+        penalty_type: penalty.penalty_type,
+        penalty_rate: penalty.penalty_rate,
+    })
+}

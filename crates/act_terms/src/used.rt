@@ -1,0 +1,103 @@
+//! Which names of a contract's object are terms of its kind.
+ghost use Rattle.std.specs.Prelude.{◌≡◌, ◌∷◌, ◌++◌, [], IfOk, OnOk, map, string_bytes};
+ghost use Rattle.serde_json.specs.View.{view};
+ghost use Rattle.act_terms.specs.Used.{is_among, is_pam_term, unused_names};
+
+use act_num::NoMemory;
+use serde_json::Value;
+use std::alloc::Global;
+
+/// The terms that every contract has, in the order in which they are read.
+const COMMON_TERMS: [&str; 14] = [
+    "contractID",
+    "contractType",
+    "contractRole",
+    "statusDate",
+    "currency",
+    "settlementCurrency",
+    "calendar",
+    "businessDayConvention",
+    "endOfMonthConvention",
+    "marketObjectCode",
+    "purchaseDate",
+    "priceAtPurchaseDate",
+    "terminationDate",
+    "priceAtTerminationDate",
+];
+
+/// The terms of every loan, in the order in which they are read.
+const LOAN_TERMS: [&str; 32] = [
+    "initialExchangeDate",
+    "maturityDate",
+    "notionalPrincipal",
+    "nominalInterestRate",
+    "accruedInterest",
+    "premiumDiscountAtIED",
+    "dayCountConvention",
+    "cycleAnchorDateOfInterestPayment",
+    "cycleOfInterestPayment",
+    "capitalizationEndDate",
+    "cycleAnchorDateOfRateReset",
+    "cycleOfRateReset",
+    "marketObjectCodeOfRateReset",
+    "nextResetRate",
+    "rateSpread",
+    "rateMultiplier",
+    "lifeCap",
+    "lifeFloor",
+    "periodCap",
+    "periodFloor",
+    "cycleAnchorDateOfFee",
+    "cycleOfFee",
+    "feeRate",
+    "feeBasis",
+    "feeAccrued",
+    "scalingEffect",
+    "cycleAnchorDateOfScalingIndex",
+    "cycleOfScalingIndex",
+    "marketObjectCodeOfScalingIndex",
+    "scalingIndexAtContractDealDate",
+    "penaltyType",
+    "penaltyRate",
+];
+
+/// The names of a contract's object that aren't terms of a PAM, in byte order, each once and whatever its value is, null
+/// and the empty text too. A value that is no object has none. NoMemory where memory runs out.
+#[tactic(auto, using(crate::proofs::PamTerms::unused_of), unfolding(crate::specs::Used::unused_names))]
+pub fn unused_names(alloc: Global, contract: &Value) -> Result<Vec<String>, NoMemory>
+    ensures { IfOk result (λ unused. map string_bytes unused.items ≡ unused_names (view contract.now)) }
+{
+    let mut unused = Vec::new(alloc);
+    let Some(object) = contract.as_object() else {
+        return Ok(unused);
+    };
+    for (name, _) in object {
+        if !is_pam_term(name.as_str()) {
+            push_name(&mut unused, name.as_str())?;
+        }
+    }
+    Ok(unused)
+}
+
+/// Adds a name.
+fn push_name(names: &mut Vec<String>, name: &str) -> Result<(), NoMemory>
+    ensures { OnOk result (map string_bytes names.new.items ≡ map string_bytes names.old.items ++ name.now ∷ []) }
+{
+    let name = String::from_str(*names.allocator(), name).map_err(|_| NoMemory)?;
+    names.push(name).map_err(|_| NoMemory)?;
+    Ok(())
+}
+
+/// Whether a name is a term of a PAM.
+fn is_pam_term(name: &str) -> bool
+    ensures { result ≡ is_pam_term name.now }
+{
+    is_among(&COMMON_TERMS, name) || is_among(&LOAN_TERMS, name)
+}
+
+/// Whether a name is one of some names.
+fn is_among(names: &[&str], name: &str) -> bool
+    ensures { result ≡ is_among (map (λ n. n.now) names.now) name.now }
+{
+    names.iter().any(|n| *n == name)
+}

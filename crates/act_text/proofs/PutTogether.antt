@@ -1,0 +1,28 @@
+-- Lines that were put together word by word.
+use Rattle.std.proofs.Common.{◌≡◌, ℕ, List, [], ◌∷◌, ◌++◌, Result, OnOk, refl, ap, ◌∙◌, append_assoc}
+use Rattle.std.proofs.lemmas.Result.{on_ok_weaker}
+use Rattle.std.specs.Prelude.{codes}
+use Rattle.act_text.specs.Lines.{line_of}
+
+module _ {T E : Type 0} (r : Result T E) (new old : List ℕ) where
+  -- a line that was ended behind what stood before
+  pub ended : (line text : List ℕ) → OnOk r (new ≡ old ++ line ++ codes "\n") → line ++ codes "\n" ≡ text → OnOk r (new ≡ old ++ text)
+  ended line text ok e = on_ok_weaker r (λ h. h ∙ (append_assoc old line (codes "\n") ∙ ap (λ t. old ++ t) e)) ok
+
+-- a day, a type, a currency and four numbers
+pub row_put : (nothing b0 b1 b2 b3 b4 b5 b6 day word type name currency payoff nt ipnr ipac : List ℕ)
+    → nothing ≡ [] → b0 ≡ nothing ++ day → b1 ≡ b0 ++ codes " " ++ word → word ≡ type → b2 ≡ b1 ++ codes " " ++ name → name ≡ currency → b3 ≡ b2 ++ codes " " ++ payoff
+    → b4 ≡ b3 ++ codes " " ++ nt → b5 ≡ b4 ++ codes " " ++ ipnr → b6 ≡ b5 ++ codes " " ++ ipac
+    → b6 ++ codes "\n" ≡ line_of day (type ∷ currency ∷ payoff ∷ nt ∷ ipnr ∷ ipac ∷ [])
+row_put nothing b0 b1 b2 b3 b4 b5 b6 day word type name currency payoff nt ipnr ipac e e0 e1 w e2 n e3 e4 e5 e6 =
+    simp (e6, e5, e4, e3, e2, e1, e0, e, w, n, append_assoc) refl
+
+-- a word, a name and a day
+pub missing_put : (nothing b0 b1 b2 b3 first name day : List ℕ) → nothing ≡ [] → b0 ≡ nothing ++ first → b1 ≡ b0 ++ codes " " ++ name → b2 ≡ b1 ++ codes " " → b3 ≡ b2 ++ day
+    → b3 ++ codes "\n" ≡ line_of first (name ∷ day ∷ [])
+missing_put nothing b0 b1 b2 b3 first name day e e0 e1 e2 e3 = simp (e3, e2, e1, e0, e, append_assoc) refl
+
+-- a word with a space behind it, a day and a type
+pub overflow_put : (nothing b0 b1 b2 first day word type : List ℕ) → nothing ≡ [] → b0 ≡ nothing ++ (first ++ codes " ") → b1 ≡ b0 ++ day → b2 ≡ b1 ++ codes " " ++ word → word ≡ type
+    → b2 ++ codes "\n" ≡ line_of first (day ∷ type ∷ [])
+overflow_put nothing b0 b1 b2 first day word type e e0 e1 e2 w = simp (e2, e1, e0, e, w, append_assoc) refl

@@ -1,0 +1,10 @@
+//! The lines of a contract's rows and of how they close.
+#![tactic(auto)]
+
+mod line;
+mod names;
+mod row;
+
+pub use line::{MOST_LINE, TextLine};
+pub use names::{code_name, contract_name, currency_name};
+pub use row::{close_line, row_line, type_word};

@@ -1,0 +1,128 @@
+-- Texts that are written piece by piece, and counts of faults over several calls.
+use Rattle.std.proofs.Common.{◌≡◌, ℕ, ◌+◌, ◌<◌, ◌≤◌, zero, suc, List, [], ◌∷◌, ◌++◌, length, take, drop, get_or, drop-cons, add-one, Option, None, Some, Result, Ok, Err, refl, sym, ap, ◌∙◌, arith, append_assoc, append-nil}
+use Rattle.std.specs.Result.{IsErrAnd}
+use Rattle.std.proofs.Math.Seq.{take-append-add}
+use Rattle.std.proofs.lemmas.List.{take-append-drop, length-take, drop_all}
+use Rattle.act_io.specs.Faults.{Rose}
+use Rattle.act_io.specs.Put.{written_after}
+use Rattle.act_top.specs.Written.{IsPart, Writes}
+
+-- ---- lists
+
+-- from a place on stands the item of that place, and then the others
+pub drop-next : {X : Type 0} (xs : List X) (i : ℕ) (x : X) → i < length xs → x ≡ get_or xs i x → drop i xs ≡ x ∷ drop (i + 1) xs
+drop-next xs i x within is = drop-cons xs i x within ∙ rw (sym is, add-one) refl
+
+pub drop-past : {X : Type 0} (xs : List X) (i : ℕ) → length xs ≤ i → drop i xs ≡ []
+drop-past xs i past = drop_all i xs past
+
+-- a function of a list from a place on
+pub from-next : {X Y : Type 0} (f : List X → Y) (xs : List X) (i : ℕ) (x : X) → i < length xs → x ≡ get_or xs i x → f (drop i xs) ≡ f (x ∷ drop (i + 1) xs)
+from-next f xs i x within is = ap f (drop-next xs i x within is)
+
+pub from-past : {X Y : Type 0} (f : List X → Y) (xs : List X) (i : ℕ) → length xs ≤ i → f (drop i xs) ≡ f []
+from-past f xs i past = ap f (drop-past xs i past)
+
+-- ---- what was written
+
+-- two texts behind each other
+pub written-both : (before : Option (List ℕ)) (a b : List ℕ) → written_after (written_after before a) b ≡ written_after before (a ++ b)
+written-both None a b = refl
+written-both (Some w) a b = rw (append_assoc w a b) refl
+
+-- nothing written leaves what was written
+pub written-nothing : (before : Option (List ℕ)) → written_after before [] ≡ before
+written-nothing None = refl
+written-nothing (Some w) = rw (append-nil w) refl
+
+-- a text behind another
+pub then-text : (before middle after : Option (List ℕ)) (a b : List ℕ) → middle ≡ written_after before a → after ≡ written_after middle b → after ≡ written_after before (a ++ b)
+then-text before middle after a b first second = second ∙ (ap (λ w. written_after w b) first ∙ written-both before a b)
+
+-- ---- parts
+
+-- the first part of a text, and of what is left
+pub take-both : (m n : ℕ) (text : List ℕ) → m ≤ length text → take (m + n) text ≡ take m text ++ take n (drop m text)
+take-both m n text within =
+    let here : length (take m text) ≡ m = omega (arith, length-take m text) in
+    rw (take-append-drop m text, here) at (take-append-add (take m text) (drop m text) n)
+
+-- a piece more
+pub written-piece : (before middle after : Option (List ℕ)) (m n : ℕ) (text piece : List ℕ) → m ≤ length text → piece ≡ drop m text → middle ≡ written_after before (take m text) → after ≡ written_after middle (take n piece)
+    → after ≡ written_after before (take (m + n) text)
+written-piece before middle after m n text piece within rest first second =
+    then-text before middle after (take m text) (take n (drop m text)) first (second ∙ ap (λ (p : List ℕ). written_after middle (take n p)) rest) ∙ ap (written_after before) (sym (take-both m n text within))
+
+-- nothing is a part
+pub part-none : (text : List ℕ) (before : Option (List ℕ)) → IsPart text before before
+part-none text before = record { bytes = 0; put = sym (written-nothing before) }
+
+-- a part of a text is one of the text with more behind it
+pub cut : (n : ℕ) (a b : List ℕ) → (m : ℕ) × (take m (a ++ b) ≡ take n a)
+cut zero a b = (zero, refl)
+cut (suc n) [] b = (zero, refl)
+cut (suc n) (x ∷ a) b = let rest = cut n a b in (suc rest.0, ap (λ xs. x ∷ xs) rest.1)
+
+pub part-first : (a b : List ℕ) (before after : Option (List ℕ)) → IsPart a before after → IsPart (a ++ b) before after
+part-first a b before after part =
+    let same = cut part.bytes a b in
+    record { bytes = same.0; put = part.put ∙ ap (written_after before) (sym same.1) }
+
+-- a part behind a text that was written
+pub part-behind : (a b : List ℕ) (before middle after : Option (List ℕ)) → middle ≡ written_after before a → IsPart b middle after → IsPart (a ++ b) before after
+part-behind a b before middle after first part =
+    record {
+      bytes = length a + part.bytes;
+      put = then-text before middle after a (take part.bytes b) first part.put ∙ ap (written_after before) (sym (take-append-add a b part.bytes));
+    }
+
+-- a text behind one that was written
+pub writes-behind : {A E : Type 0} (r : Result A E) (a b : List ℕ) (before middle after : Option (List ℕ)) → middle ≡ written_after before a → Writes r b middle after → Writes r (a ++ b) before after
+writes-behind (Ok value) a b before middle after first second = then-text before middle after a b first second
+writes-behind (Err fault) a b before middle after first second = part-behind a b before middle after first second
+
+-- where a fault is handed on, a part was written
+pub writes-part : {A E : Type 0} (r : Result A E) (Q : E → Type 0) (text : List ℕ) (before after : Option (List ℕ)) → IsErrAnd r Q → IsPart text before after → Writes r text before after
+writes-part (Ok value) Q text before after is part = absurd is
+writes-part (Err fault) Q text before after is part = part
+
+-- the same of the first text of two
+pub writes-first : {A E : Type 0} (r : Result A E) (Q : E → Type 0) (a b : List ℕ) (before after : Option (List ℕ)) → IsErrAnd r Q → IsPart a before after → Writes r (a ++ b) before after
+writes-first r Q a b before after is part = writes-part r Q (a ++ b) before after is (part-first a b before after part)
+
+-- ---- what is left to be written
+
+-- of a text, this rest is still to be written
+pub record Left (whole rest : List ℕ) (before now : Option (List ℕ)) : Type 0 where
+  pub done : List ℕ
+  pub split : whole ≡ done ++ rest
+  pub put : now ≡ written_after before done
+
+pub left-all : (whole : List ℕ) (before : Option (List ℕ)) → Left whole whole before before
+left-all whole before = record { done = []; split = refl; put = sym (written-nothing before) }
+
+-- a piece more was written
+pub left-next : (whole left piece rest : List ℕ) (before now next : Option (List ℕ)) → Left whole left before now → left ≡ piece ++ rest → next ≡ written_after now piece → Left whole rest before next
+left-next whole left piece rest before now next text here put =
+    record {
+      done = text.done ++ piece;
+      split = text.split ∙ (ap (λ (t : List ℕ). text.done ++ t) here ∙ sym (append_assoc text.done piece rest));
+      put = then-text before now next text.done piece text.put put;
+    }
+
+-- the next piece was written in part
+pub left-part : (whole left piece rest : List ℕ) (before now next : Option (List ℕ)) → Left whole left before now → left ≡ piece ++ rest → IsPart piece now next → IsPart whole before next
+left-part whole left piece rest before now next text here part =
+    let within = part-behind text.done (piece ++ rest) before now next text.put (part-first piece rest now next part) in
+    rw (text.split, here) within
+
+-- nothing is left
+pub left-none : (whole left : List ℕ) (before now : Option (List ℕ)) → Left whole left before now → left ≡ [] → now ≡ written_after before whole
+left-none whole left before now text none =
+    text.put ∙ ap (written_after before) (sym (text.split ∙ (ap (λ (t : List ℕ). text.done ++ t) none ∙ append-nil text.done)))
+
+-- ---- counts of faults
+
+-- a count that rose after it had not fallen
+pub rose-later : (a b c : ℕ) → a ≤ b → Rose b c → Rose a c
+rose-later a b c le rose = grind (arith, le, rose)

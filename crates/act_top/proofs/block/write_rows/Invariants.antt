@@ -1,0 +1,12 @@
+use Rattle.std.proofs.Common.{◌≤◌, drop}
+use Rattle.std.specs.List.{flat_map}
+use Rattle.act_text.specs.Lines.{row_text}
+use Rattle.act_top.proofs.Texts.{Left}
+use Rattle.act_top.proofs.block.write_rows.Given as goal
+
+-- the lines of the rows from this one on are still to be written
+abbrev pub invariant-loop-row : goal.invariant-loop-row
+invariant-loop-row g l = record {
+  text : Left (flat_map (row_text l.names) l.rows) (flat_map (row_text l.names) (drop l.row-index l.rows)) (g.K.Sink.written l.fn.out) (g.K.Sink.written l.out);
+  count : g.K.Sink.faults l.fn.out ≤ g.K.Sink.faults l.out;
+}

@@ -1,0 +1,82 @@
+-- What a command comes to that stops before it writes its text: a line in its place, and the names that were asked for. This profile's own.
+use Rattle.std.specs.Prelude.{◌≡◌, ◌<◌, ℕ, List, [], ◌∷◌, length, Option, Some, None, IfSome, Result, Ok, Err, ⊤, Vec}
+use Rattle.std.specs.declared.alloc.Global.{Global}
+use Rattle.act_top.specs.Asked.{Asks, NamesFile}
+use Rattle.act_top.specs.Command.{CommandWords, files_of}
+use Rattle.act_top.specs.Output.{Outcome, long_outcome, most_bytes, read_outcome}
+use Rattle.act_top.specs.declared.halt.Halt.{Halt}
+use Rattle.act_top.specs.declared.halt.Halt.TheVariants as halt
+use Rattle.act_top.specs.declared.top.Status.TheVariants.{ReadFault, TooLong, PortfolioRefused, ScriptRefused, NoMemory}
+
+-- ---- the line
+
+-- the status and the line of a halt; no line where memory ran out
+abbrev pub halt_outcome : Halt → Outcome
+halt_outcome (halt.Unread line) = record { status = ReadFault; text = line.items }
+halt_outcome (halt.TooLong line) = record { status = TooLong; text = line.items }
+halt_outcome (halt.PortfolioRefused line) = record { status = PortfolioRefused; text = line.items }
+halt_outcome (halt.ScriptRefused line) = record { status = ScriptRefused; text = line.items }
+halt_outcome halt.Memory = record { status = NoMemory; text = [] }
+
+-- the refusal that a halt is: reading that failed and want of memory are none
+abbrev pub refusal_of : Halt → Option Outcome
+refusal_of (halt.Unread line) = None
+refusal_of (halt.TooLong line) = Some (halt_outcome (halt.TooLong line))
+refusal_of (halt.PortfolioRefused line) = Some (halt_outcome (halt.PortfolioRefused line))
+refusal_of (halt.ScriptRefused line) = Some (halt_outcome (halt.ScriptRefused line))
+refusal_of halt.Memory = None
+
+-- what is read is the wanted value, or the halt is the wanted refusal, unless reading failed or memory ran out
+abbrev pub Reads : {A : Type 0} → Result A Outcome → Result A Halt → Type 0
+Reads wanted (Ok value) = wanted ≡ Ok value
+Reads wanted (Err halt) = IfSome (refusal_of halt) (λ outcome. wanted ≡ Err outcome)
+
+-- the bytes of a file of that name are read where they are no more than 64 MiB, and refused where they are more, unless reading failed or
+-- memory ran out
+abbrev pub ReadsBytes : List ℕ → List ℕ → Result (Vec ℕ Global) Halt → Type 0
+ReadsBytes name bytes (Ok read) = read.items ≡ bytes
+ReadsBytes name bytes (Err halt) = IfSome (refusal_of halt) (λ outcome. (most_bytes < length bytes) × (outcome ≡ long_outcome name))
+
+-- a halt is a refusal of a portfolio only where that may be, and one of a script only where that may be, and never of a file's reading
+abbrev pub RefusesOnly : Type 0 → Type 0 → Halt → Type 0
+RefusesOnly portfolio script (halt.Unread line) = ⊥
+RefusesOnly portfolio script (halt.TooLong line) = ⊥
+RefusesOnly portfolio script (halt.PortfolioRefused line) = portfolio
+RefusesOnly portfolio script (halt.ScriptRefused line) = script
+RefusesOnly portfolio script halt.Memory = ⊤
+
+-- where reading a file failed, that holds
+abbrev pub OnUnread : {A : Type 0} → Result A Halt → Type 0 → Type 0
+OnUnread (Ok value) holds = ⊤
+OnUnread (Err (halt.Unread line)) holds = holds
+OnUnread (Err (halt.TooLong line)) holds = ⊤
+OnUnread (Err (halt.PortfolioRefused line)) holds = ⊤
+OnUnread (Err (halt.ScriptRefused line)) holds = ⊤
+OnUnread (Err halt.Memory) holds = ⊤
+
+-- ---- the names
+
+-- the file of that name was asked for, and the line of its fault names it; nothing is said where memory ran out. A portfolio and a script are
+-- refused only where that may be
+abbrev pub AsksFile : {A : Type 0} → Type 0 → Type 0 → List ℕ → Result A Halt → Option (List (List ℕ)) → Option (List (List ℕ)) → Type 0
+AsksFile portfolio script name (Ok value) before after = Asks (name ∷ []) before after
+AsksFile portfolio script name (Err (halt.Unread line)) before after = Asks (name ∷ []) before after × (line.items ≡ (read_outcome name).text)
+AsksFile portfolio script name (Err (halt.TooLong line)) before after = Asks (name ∷ []) before after × (line.items ≡ (long_outcome name).text)
+AsksFile portfolio script name (Err (halt.PortfolioRefused line)) before after = portfolio × Asks (name ∷ []) before after
+AsksFile portfolio script name (Err (halt.ScriptRefused line)) before after = script × Asks (name ∷ []) before after
+AsksFile portfolio script name (Err halt.Memory) before after = ⊤
+
+-- the script file was asked for, where there is one, in the same way
+abbrev pub AsksScript : {A : Type 0} → Option (List ℕ) → Result A Halt → Option (List (List ℕ)) → Option (List (List ℕ)) → Type 0
+AsksScript (Some name) result before after = AsksFile ⊥ ⊤ name result before after
+AsksScript None (Ok value) before after = Asks [] before after
+AsksScript None (Err halt) before after = RefusesOnly ⊥ (Asks [] before after) halt
+
+-- what a command asked for once it may write, or where it stopped
+abbrev pub AsksFiles : {A : Type 0} → CommandWords → Result A Halt → Option (List (List ℕ)) → Option (List (List ℕ)) → Type 0
+AsksFiles command (Ok value) before after = Asks (files_of command) before after
+AsksFiles command (Err (halt.Unread line)) before after = NamesFile read_outcome command (λ text. line.items ≡ text) before after
+AsksFiles command (Err (halt.TooLong line)) before after = NamesFile long_outcome command (λ text. line.items ≡ text) before after
+AsksFiles command (Err (halt.PortfolioRefused line)) before after = Asks (command.portfolio ∷ []) before after
+AsksFiles command (Err (halt.ScriptRefused line)) before after = Asks (files_of command) before after
+AsksFiles command (Err halt.Memory) before after = ⊤

@@ -1,0 +1,13 @@
+-- Texts that are written piece by piece, up to a fault. This profile's own.
+use Rattle.std.specs.Prelude.{◌≡◌, ℕ, List, take, Option, Result, Ok, Err}
+use Rattle.act_io.specs.Put.{written_after}
+
+-- a first part of a text was written behind what had been: nothing of it, something, or all
+pub record IsPart (text : List ℕ) (before after : Option (List ℕ)) : Type 0 where
+  pub bytes : ℕ
+  pub put : after ≡ written_after before (take bytes text)
+
+-- a text was written whole, or, where a fault came, a first part of it
+abbrev pub Writes : {A E : Type 0} → Result A E → List ℕ → Option (List ℕ) → Option (List ℕ) → Type 0
+Writes (Ok value) text before after = after ≡ written_after before text
+Writes (Err fault) text before after = IsPart text before after

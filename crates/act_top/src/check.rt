@@ -1,0 +1,204 @@
+//! What `check` writes.
+ghost use Rattle.std.specs.Prelude.{◌≡◌, ◌≤◌, ◌++◌, length, map, string_bytes, Err};
+ghost use Rattle.std.specs.List.{flat_map, list_all};
+ghost use Rattle.act_io.specs.Faults.{Rose};
+ghost use Rattle.act_model.specs.Name.{has_form, is_graphic};
+ghost use Rattle.act_profile.specs.Contract.{type_of};
+ghost use Rattle.act_text.specs.Lines.{line_of};
+ghost use Rattle.act_top.specs.Output.{check_text, contract_line, contracts_text, count_line, shown_name, type_word, unused_line};
+ghost use Rattle.act_top.specs.Written.{Writes};
+ghost use Rattle.act_top.specs.declared.writing.Stop.TheVariants.{Sink as SinkStop};
+
+use crate::line::push_line;
+use crate::writing::{Stop, write_line};
+use act_io::Sink;
+use act_model::{Kind, Names};
+use act_portfolio::Portfolio;
+use act_text::contract_name;
+use itoa::Buffer;
+use std::alloc::Global;
+
+/// Writes how many contracts of a portfolio have a name, and each of them.
+pub(crate) fn write_check<K: Sink>(
+    alloc: Global,
+    out: &mut K,
+    portfolio: &Portfolio,
+) -> Result<(), Stop>
+    ensures text { Writes result (check_text portfolio.now) (K.written out.old) (K.written out.new) }
+    ensures failed { result ≡ Err SinkStop → Rose (K.faults out.old) (K.faults out.new) }
+{
+    let names = portfolio.into_names()?;
+    let mut line = Vec::new(alloc);
+    write_portfolio(out, &mut line, portfolio, &names)
+}
+
+/// Writes how many contracts have a name, and each of them. `line` is room for a line.
+fn write_portfolio<K: Sink>(
+    out: &mut K,
+    line: &mut Vec<u8>,
+    portfolio: &Portfolio,
+    names: &Names,
+) -> Result<(), Stop>
+    requires names { names.now ≡ portfolio.now.names }
+    ensures text { Writes result (check_text portfolio.now) (K.written out.old) (K.written out.new) }
+    ensures failed { result ≡ Err SinkStop → Rose (K.faults out.old) (K.faults out.new) }
+{
+    write_count(out, line, portfolio.named())?;
+    write_contracts(out, line, portfolio, names)
+}
+
+/// Writes how many contracts have a name.
+#[tactic(auto, unfolding(crate::specs::Output::count_line))]
+fn write_count<K: Sink>(out: &mut K, line: &mut Vec<u8>, count: u32) -> Result<(), Stop>
+    ensures text { Writes result (count_line count) (K.written out.old) (K.written out.new) }
+    ensures failed { result ≡ Err SinkStop → Rose (K.faults out.old) (K.faults out.new) }
+    ensures count { K.faults out.old ≤ K.faults out.new }
+{
+    let mut digits = Buffer::new();
+    let count = digits.format(count);
+    write_words(out, line, b"portfolio", &[b"ok", count.as_bytes()])
+}
+
+/// Writes each contract.
+fn write_contracts<K: Sink>(
+    out: &mut K,
+    line: &mut Vec<u8>,
+    portfolio: &Portfolio,
+    names: &Names,
+) -> Result<(), Stop>
+    requires names { names.now ≡ portfolio.now.names }
+    ensures text { Writes result (contracts_text portfolio.now 0 portfolio.now.contracts.terms portfolio.now.names.contracts portfolio.now.unused)
+        (K.written out.old) (K.written out.new) }
+    ensures failed { result ≡ Err SinkStop → Rose (K.faults out.old) (K.faults out.new) }
+    ensures count { K.faults out.old ≤ K.faults out.new }
+{
+    for contract in 0..portfolio.named() {
+        let id = contract_name(names, contract);
+        let kind = &portfolio.terms()[contract as usize].kind;
+        let count = portfolio.scheduled_count(contract);
+        write_contract(out, line, id, kind, count, portfolio.unused(contract))?;
+    }
+    Ok(())
+}
+
+/// Writes a contract: its name, its kind and its scheduled count, and below it each name that isn't used.
+fn write_contract<K: Sink>(
+    out: &mut K,
+    line: &mut Vec<u8>,
+    id: &str,
+    kind: &Kind,
+    count: u64,
+    unused: &[String],
+) -> Result<(), Stop>
+    ensures text { Writes result (contract_line id.now (type_word (type_of kind.now)) count ++ flat_map unused_line (map string_bytes unused.now))
+        (K.written out.old) (K.written out.new) }
+    ensures failed { result ≡ Err SinkStop → Rose (K.faults out.old) (K.faults out.new) }
+    ensures count { K.faults out.old ≤ K.faults out.new }
+{
+    write_contract_line(out, line, id, type_word(kind), count)?;
+    write_unused(out, line, unused)
+}
+
+/// Writes the line of a contract: its name, its kind and its scheduled count.
+#[tactic(auto, unfolding(crate::specs::Output::contract_line))]
+fn write_contract_line<'a, K: Sink>(
+    out: &mut K,
+    line: &mut Vec<u8>,
+    id: &'a str,
+    kind: &'a [u8],
+    count: u64,
+) -> Result<(), Stop>
+    ensures text { Writes result (contract_line id.now kind.now count) (K.written out.old) (K.written out.new) }
+    ensures failed { result ≡ Err SinkStop → Rose (K.faults out.old) (K.faults out.new) }
+    ensures count { K.faults out.old ≤ K.faults out.new }
+{
+    let mut digits = Buffer::new();
+    let count = digits.format(count);
+    write_words(
+        out,
+        line,
+        b"contract",
+        &[id.as_bytes(), kind, count.as_bytes()],
+    )
+}
+
+/// Writes each name that isn't used.
+fn write_unused<K: Sink>(out: &mut K, line: &mut Vec<u8>, names: &[String]) -> Result<(), Stop>
+    ensures text { Writes result (flat_map unused_line (map string_bytes names.now)) (K.written out.old) (K.written out.new) }
+    ensures failed { result ≡ Err SinkStop → Rose (K.faults out.old) (K.faults out.new) }
+    ensures count { K.faults out.old ≤ K.faults out.new }
+{
+    for name in names {
+        write_unused_name(out, line, name.as_bytes())?;
+    }
+    Ok(())
+}
+
+/// Writes a name that isn't used.
+#[tactic(auto, unfolding(crate::specs::Output::unused_line))]
+fn write_unused_name<K: Sink>(out: &mut K, line: &mut Vec<u8>, name: &[u8]) -> Result<(), Stop>
+    ensures text { Writes result (unused_line name.now) (K.written out.old) (K.written out.new) }
+    ensures failed { result ≡ Err SinkStop → Rose (K.faults out.old) (K.faults out.new) }
+    ensures count { K.faults out.old ≤ K.faults out.new }
+{
+    write_words(out, line, b"unused", &[shown_name(name)])
+}
+
+/// Writes a line of a word and others, each of these behind a space.
+fn write_words<K: Sink>(
+    out: &mut K,
+    line: &mut Vec<u8>,
+    word: &[u8],
+    others: &[&[u8]],
+) -> Result<(), Stop>
+    ensures text { Writes result (line_of word.now (map (λ w. w.now) others.now)) (K.written out.old) (K.written out.new) }
+    ensures failed { result ≡ Err SinkStop → Rose (K.faults out.old) (K.faults out.new) }
+    ensures count { K.faults out.old ≤ K.faults out.new }
+{
+    line.clear();
+    push_line(line, word, others)?;
+    write_line(out, line)
+}
+
+/// A name of printable characters without space as it is, and any other as `?`.
+fn shown_name(name: &[u8]) -> &[u8]
+    ensures { result.now ≡ shown_name name.now }
+{
+    if is_printable(name) { name } else { b"?" }
+}
+
+/// Whether a name has printable characters without space, one at least.
+#[tactic(auto, unfolding(act_model::specs::Name::has_form))]
+fn is_printable(name: &[u8]) -> bool
+    ensures { result ≡ has_form (length name.now) name.now }
+{
+    !name.is_empty() && are_graphic(name)
+}
+
+/// Whether all bytes are printable characters other than a space.
+fn are_graphic(bytes: &[u8]) -> bool
+    ensures { result ≡ list_all is_graphic bytes.now }
+{
+    bytes.iter().all(|byte| byte.is_ascii_graphic())
+}
+
+/// The ACTUS name of a kind of contracts.
+fn type_word(kind: &Kind) -> &'static [u8]
+    ensures { result.now ≡ type_word (type_of kind.now) }
+{
+    match kind {
+        Kind::PAM(_) => b"PAM",
+        Kind::LAM(_) => b"LAM",
+        Kind::NAM(_) => b"NAM",
+        Kind::ANN(_) => b"ANN",
+        Kind::STK(_) => b"STK",
+        Kind::FXOUT(_) => b"FXOUT",
+        Kind::SWPPV(_) => b"SWPPV",
+        Kind::SWAPS(_) => b"SWAPS",
+        Kind::CAPFL(_) => b"CAPFL",
+        Kind::OPTNS(_) => b"OPTNS",
+        Kind::FUTUR(_) => b"FUTUR",
+        Kind::CEG(_) => b"CEG",
+        Kind::CEC(_) => b"CEC",
+    }
+}

@@ -1,0 +1,47 @@
+//! A portfolio, and a script of it.
+ghost use Rattle.std.specs.Prelude.{◌≡◌, IfErr, IfOk, IfSome, ⊤};
+ghost use Rattle.act_top.specs.Halts.{RefusesOnly, refusal_of};
+ghost use Rattle.act_top.specs.Output.{eval_outcome};
+ghost use Rattle.act_top.specs.Ready.{AreAlone, AreOf, evaluation_outcome};
+
+use crate::halt::Halt;
+use crate::reading::Script;
+use crate::weight::check_weight;
+use act_portfolio::Portfolio;
+use std::alloc::Global;
+use std::marker::Model;
+
+/// A portfolio, and a script of it whose asks don't weigh too much.
+#[derive(Drop)]
+pub(crate) struct Evaluation {
+    pub(crate) portfolio: Portfolio,
+    pub(crate) script: Script,
+}
+
+impl Model for Evaluation {
+    ghost use Rattle.act_top.specs.Ready as ready;
+
+    ghost Value = { ready.Evaluation };
+
+    ghost view = { λ e. record { portfolio = e.portfolio; script = e.script } };
+
+    ghost invariant = { λ e. ready.IsReady e.portfolio e.script };
+}
+
+impl Evaluation {
+    /// The evaluation of a portfolio by its script, which is refused where its asks weigh too much.
+    pub(crate) fn new(
+        alloc: Global,
+        portfolio: Portfolio,
+        script: Script,
+    ) -> Result<Evaluation, Halt>
+        requires alone { AreAlone portfolio }
+        requires lines { AreOf portfolio script }
+        ensures outcome { IfOk result (λ evaluation. eval_outcome portfolio script ≡ evaluation_outcome evaluation) }
+        ensures too_much { IfErr result (λ halt. IfSome (refusal_of halt) (λ outcome. eval_outcome portfolio script ≡ outcome)) }
+        ensures refused { IfErr result (RefusesOnly ⊥ ⊤) }
+    {
+        check_weight(alloc, &portfolio, &script)?;
+        Ok(Evaluation { portfolio, script })
+    }
+}

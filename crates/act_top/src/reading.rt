@@ -1,0 +1,221 @@
+//! Reading the files of a command.
+ghost use Rattle.std.specs.Prelude.{◌≡◌, ◌≤◌, ℕ, List, length, IfErr, IfOk, IfSome, option_map, ⊤, vec_len};
+ghost use Rattle.act_io.specs.Faults.{Rose};
+ghost use Rattle.act_top.specs.Halts.{AsksFile, AsksScript, OnUnread, Reads, ReadsBytes, RefusesOnly, refusal_of};
+ghost use Rattle.act_top.specs.Output.{ask_for_all, portfolio_accepted, portfolio_read, portfolio_refused, script_accepted, script_fault, script_read, script_refused, script_told};
+ghost use Rattle.act_top.specs.Ready.{AreAlone, AreOf};
+
+use crate::halt::Halt;
+use crate::line::line_of;
+use act_io::{FetchFault, Files};
+use act_model::{Asked, Line, Names, Step};
+use act_num::NoMemory;
+use act_portfolio::{Portfolio, PortfolioFault};
+use act_script::{ScriptFault, read_script};
+use itoa::Buffer;
+use std::alloc::Global;
+use std::marker::Model;
+
+/// The most bytes of a file: 64 MiB.
+const MOST_BYTES: u64 = 67_108_864;
+
+/// The lines of a script, the names with its codes, and how many entries it has.
+#[derive(Drop)]
+pub(crate) struct Script {
+    pub(crate) lines: Vec<Line>,
+    pub(crate) names: Names,
+    pub(crate) entries: u64,
+}
+
+impl Model for Script {
+    ghost use Rattle.act_script.specs.Reading as reading;
+
+    ghost Value = { reading.Script };
+
+    ghost view = { λ s. record { lines = s.lines.items; names = s.names; entries = s.entries } };
+}
+
+/// The portfolio of the file of that name.
+pub(crate) fn read_portfolio<F: Files>(
+    alloc: Global,
+    files: &mut F,
+    name: &str,
+) -> Result<Portfolio, Halt>
+    ensures told { IfSome (F.content files.old name.now) (λ bytes. Reads (portfolio_read name.now bytes) result) }
+    ensures alone { IfOk result (λ portfolio. AreAlone portfolio) }
+    ensures failed { OnUnread result (Rose (F.faults files.old) (F.faults files.new)) }
+    ensures count { F.faults files.old ≤ F.faults files.new }
+    ensures asked { AsksFile ⊤ ⊥ name.now result (F.asked files.old) (F.asked files.new) }
+    ensures same { (other : List ℕ) → F.content files.new other ≡ F.content files.old other }
+{
+    let bytes = fetch(alloc, files, name)?;
+    accepted_portfolio(alloc, &bytes)
+}
+
+/// The script of the file of that name, or where none is named the one that asks once for all contracts.
+pub(crate) fn script_of<F: Files>(
+    alloc: Global,
+    files: &mut F,
+    portfolio: &Portfolio,
+    name: Option<&str>,
+) -> Result<Script, Halt>
+    ensures told { IfSome (script_told (F.content files.old) portfolio.now (option_map (λ s. s.now) name.entry)) (λ script. Reads script result) }
+    ensures lines { IfOk result (λ script. AreOf portfolio.now script) }
+    ensures failed { OnUnread result (Rose (F.faults files.old) (F.faults files.new)) }
+    ensures count { F.faults files.old ≤ F.faults files.new }
+    ensures asked { AsksScript (option_map (λ s. s.now) name.entry) result (F.asked files.old) (F.asked files.new) }
+{
+    match name {
+        Some(name) => read_lines(alloc, files, portfolio, name),
+        None => ask_for_all(alloc, portfolio),
+    }
+}
+
+/// The script of the file of that name.
+fn read_lines<F: Files>(
+    alloc: Global,
+    files: &mut F,
+    portfolio: &Portfolio,
+    name: &str,
+) -> Result<Script, Halt>
+    ensures told { IfSome (F.content files.old name.now) (λ bytes. Reads (script_read portfolio.now name.now bytes) result) }
+    ensures lines { IfOk result (λ script. AreOf portfolio.now script) }
+    ensures failed { OnUnread result (Rose (F.faults files.old) (F.faults files.new)) }
+    ensures count { F.faults files.old ≤ F.faults files.new }
+    ensures asked { AsksFile ⊥ ⊤ name.now result (F.asked files.old) (F.asked files.new) }
+{
+    let bytes = fetch(alloc, files, name)?;
+    accepted_script(alloc, portfolio, &bytes)
+}
+
+/// The script that asks once for all contracts.
+fn ask_for_all(alloc: Global, portfolio: &Portfolio) -> Result<Script, Halt>
+    ensures script { IfOk result (λ script. script ≡ ask_for_all portfolio.now.names) }
+    ensures lines { IfOk result (λ script. AreOf portfolio.now script) }
+    ensures memory { IfErr result (λ halt. halt ≡ Halt.Memory) }
+{
+    let names = portfolio.into_names()?;
+    let ask = Line {
+        step: Step::Ask(Asked::All),
+        line: 1,
+    };
+    let Ok(lines) = Vec::from_slice(alloc, &[ask]) else {
+        return Err(Halt::Memory);
+    };
+    Ok(Script {
+        lines,
+        names,
+        entries: 0,
+    })
+}
+
+/// The bytes of the file of that name.
+fn fetch<F: Files>(alloc: Global, files: &mut F, name: &str) -> Result<Vec<u8>, Halt>
+    ensures told { IfSome (F.content files.old name.now) (λ bytes. ReadsBytes name.now bytes result) }
+    ensures within { IfOk result (λ bytes. vec_len bytes ≤ MOST_BYTES) }
+    ensures failed { OnUnread result (Rose (F.faults files.old) (F.faults files.new)) }
+    ensures count { F.faults files.old ≤ F.faults files.new }
+    ensures asked { AsksFile ⊥ ⊥ name.now result (F.asked files.old) (F.asked files.new) }
+    ensures same { (other : List ℕ) → F.content files.new other ≡ F.content files.old other }
+{
+    match files.fetch(alloc, name, MOST_BYTES) {
+        Ok(bytes) => Ok(bytes),
+        Err(FetchFault::Failed) => Err(Halt::Unread(line_of(alloc, b"read", &[name.as_bytes()])?)),
+        Err(FetchFault::TooLong) => Err(Halt::TooLong(line_of(
+            alloc,
+            b"long",
+            &[name.as_bytes()],
+        )?)),
+        Err(FetchFault::NoMemory) => Err(Halt::Memory),
+    }
+}
+
+/// The portfolio of a file's bytes.
+fn accepted_portfolio(alloc: Global, bytes: &[u8]) -> Result<Portfolio, Halt>
+    requires within { length bytes.now ≤ MOST_BYTES }
+    ensures told { Reads (portfolio_accepted bytes.now) result }
+    ensures alone { IfOk result (λ portfolio. AreAlone portfolio) }
+    ensures refused { IfErr result (RefusesOnly ⊤ ⊥) }
+{
+    match Portfolio::read(alloc, bytes) {
+        Ok(portfolio) => Ok(portfolio),
+        Err(
+            PortfolioFault::Refused {
+                number,
+                place,
+                what,
+            },
+        ) => Err(Halt::PortfolioRefused(portfolio_line(alloc, number, place, &what)?)),
+        Err(PortfolioFault::NoMemory) => Err(Halt::Memory),
+    }
+}
+
+/// The line of a portfolio that is refused: the number, the contract's place, and what is refused.
+fn portfolio_line(alloc: Global, number: u8, place: u32, what: &[u8]) -> Result<Vec<u8>, NoMemory>
+    ensures { IfOk result (λ line. line.items
+        ≡ (portfolio_refused (record { number = number; place = place; what = what.now })).text) }
+{
+    let mut number_digits = Buffer::new();
+    let mut place_digits = Buffer::new();
+    line_of(
+        alloc,
+        b"portfolio",
+        &[
+            number_digits.format(number).as_bytes(),
+            place_digits.format(place).as_bytes(),
+            what,
+        ],
+    )
+}
+
+/// The script of a file's bytes.
+fn accepted_script(alloc: Global, portfolio: &Portfolio, bytes: &[u8]) -> Result<Script, Halt>
+    requires within { length bytes.now ≤ MOST_BYTES }
+    ensures told { Reads (script_accepted portfolio.now bytes.now) result }
+    ensures lines { IfOk result (λ script. AreOf portfolio.now script) }
+    ensures refused { IfErr result (RefusesOnly ⊥ ⊤) }
+{
+    let mut names = portfolio.into_names()?;
+    let mut entries = 0;
+    match read_script(alloc, bytes, &mut names, portfolio.terms(), &mut entries) {
+        Ok(lines) => Ok(Script {
+            lines,
+            names,
+            entries,
+        }),
+        Err(fault) => Err(script_halt(alloc, fault)),
+    }
+}
+
+/// The halt of a script's fault.
+fn script_halt(alloc: Global, fault: ScriptFault) -> Halt
+    ensures outcome { IfSome (refusal_of result) (λ outcome. outcome ≡ script_fault fault) }
+    ensures refused { RefusesOnly ⊥ ⊤ result }
+{
+    match fault {
+        ScriptFault::NotLine(line) => script_refused(alloc, 1, 1, line),
+        ScriptFault::UnknownName(line) => script_refused(alloc, 2, 1, line),
+        ScriptFault::EventUnfit(line) => script_refused(alloc, 3, 1, line),
+        ScriptFault::TooManyEntries(line) => script_refused(alloc, 4, 1, line),
+        ScriptFault::NoMemory => Halt::Memory,
+    }
+}
+
+/// A script is refused: the number, the script's place from 1, and the line.
+pub(crate) fn script_refused(alloc: Global, number: u32, script: u32, line: u32) -> Halt
+    ensures outcome { IfSome (refusal_of result) (λ outcome. outcome ≡ script_refused number script line) }
+    ensures refused { RefusesOnly ⊥ ⊤ result }
+{
+    let mut number_digits = Buffer::new();
+    let mut script_digits = Buffer::new();
+    let mut line_digits = Buffer::new();
+    let words = [
+        number_digits.format(number).as_bytes(),
+        script_digits.format(script).as_bytes(),
+        line_digits.format(line).as_bytes(),
+    ];
+    match line_of(alloc, b"script", &words) {
+        Ok(line) => Halt::ScriptRefused(line),
+        Err(_) => Halt::Memory,
+    }
+}

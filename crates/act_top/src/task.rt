@@ -1,0 +1,69 @@
+//! What a command is to write.
+ghost use Rattle.std.specs.Prelude.{◌≡◌, ◌≤◌, Some, IfErr, IfOk, IfSome, option_map};
+ghost use Rattle.act_io.specs.Faults.{Rose};
+ghost use Rattle.act_top.specs.Halts.{AsksFiles, AsksScript, OnUnread, refusal_of};
+ghost use Rattle.act_top.specs.Output.{outcome_of, script_outcome, script_told};
+ghost use Rattle.act_top.specs.Ready.{AreAlone, evaluation_outcome};
+ghost use Rattle.act_top.specs.Tasks.{task_outcome};
+
+use crate::command::{Command, Verb};
+use crate::evaluation::Evaluation;
+use crate::halt::Halt;
+use crate::reading::{read_portfolio, script_of};
+use act_io::Files;
+use act_portfolio::Portfolio;
+use std::alloc::Global;
+
+/// What a command is to write.
+#[derive(Drop)]
+pub(crate) enum Task {
+    /// The contracts of a portfolio.
+    Check(Portfolio),
+    /// The journal of a script, and its answers.
+    Evaluate(Evaluation),
+}
+
+/// What a command is to write: its files are read one after the other, up to the first that is refused.
+pub(crate) fn task_of<F: Files>(
+    alloc: Global,
+    files: &mut F,
+    command: &Command,
+) -> Result<Task, Halt>
+    ensures task { IfOk result (λ task.
+        IfSome (outcome_of (F.content files.old) (Some command.now)) (λ wanted. wanted ≡ task_outcome task)) }
+    ensures refused { IfErr result (λ halt. IfSome (refusal_of halt) (λ outcome.
+        IfSome (outcome_of (F.content files.old) (Some command.now)) (λ wanted. wanted ≡ outcome))) }
+    ensures failed { OnUnread result (Rose (F.faults files.old) (F.faults files.new)) }
+    ensures asked { AsksFiles command.now result (F.asked files.old) (F.asked files.new) }
+{
+    let portfolio = read_portfolio(alloc, files, command.portfolio)?;
+    match command.verb {
+        Verb::Check => Ok(Task::Check(portfolio)),
+        Verb::Eval => {
+            let evaluation = evaluation_of(alloc, files, portfolio, command.script)?;
+            Ok(Task::Evaluate(evaluation))
+        }
+    }
+}
+
+/// The evaluation of a portfolio by the script of a file, or of all its contracts where none is named.
+fn evaluation_of<F: Files>(
+    alloc: Global,
+    files: &mut F,
+    portfolio: Portfolio,
+    script: Option<&str>,
+) -> Result<Evaluation, Halt>
+    requires { AreAlone portfolio }
+    ensures evaluation { IfOk result (λ evaluation.
+        IfSome (script_told (F.content files.old) portfolio (option_map (λ s. s.now) script.entry))
+        (λ script. script_outcome portfolio script ≡ evaluation_outcome evaluation)) }
+    ensures refused { IfErr result (λ halt. IfSome (refusal_of halt) (λ outcome.
+        IfSome (script_told (F.content files.old) portfolio (option_map (λ s. s.now) script.entry))
+        (λ script. script_outcome portfolio script ≡ outcome))) }
+    ensures failed { OnUnread result (Rose (F.faults files.old) (F.faults files.new)) }
+    ensures count { F.faults files.old ≤ F.faults files.new }
+    ensures asked { AsksScript (option_map (λ s. s.now) script.entry) result (F.asked files.old) (F.asked files.new) }
+{
+    let script = script_of(alloc, files, &portfolio, script)?;
+    Evaluation::new(alloc, portfolio, script)
+}
