@@ -1,6 +1,5 @@
 -- The portfolio of a list of contracts, from what its steps give.
-use Rattle.std.proofs.Common.{◌≡◌, ℕ, zero, suc, ◌*◌, ◌<◌, ◌≤◌, List, [], ◌∷◌, length, get_or, map, Bool, true, false, Option, Some, None, option_map, Result, Ok, Err, nat_lt, inl, inr, refl, ap, sym, subst, ◌∙◌, arith}
-use Rattle.std.proofs.lemmas.Bool.Decides.{nat_tests}
+use Rattle.std.proofs.Common.{◌≡◌, ℕ, zero, suc, ◌*◌, ◌≤◌, List, [], ◌∷◌, length, get_or, map, Some, None, option_map, Result, Ok, Err, inl, inr, refl, ap, sym, subst, ◌∙◌, arith}
 use Rattle.std.proofs.lemmas.List.{get_or_default, length-map}
 use Rattle.std.proofs.lemmas.Option.{same_Some, slice_get-map, slice_get_cases}
 use Rattle.std.proofs.lemmas.Simd.{map-map}
@@ -11,45 +10,49 @@ use Rattle.act_model.specs.Run.{EventPlan}
 use Rattle.act_model.specs.declared.choice.ContractType.TheVariants.{PAM}
 use Rattle.act_model.specs.declared.terms.Terms.{Terms}
 use Rattle.act_profile.specs.Contract.{type_of}
-use Rattle.act_profile.specs.Outcomes.{then_ok}
+use Rattle.act_profile.specs.Outcomes.{map_ok, then_ok}
 use Rattle.act_profile.specs.Plan.{plan_of}
 use Rattle.act_terms.specs.Contract.{NamedTerms, contract_of}
 use Rattle.act_terms.specs.Used.{unused_names}
 use Rattle.serde_json.specs.Data.{Data}
-use Rattle.act_portfolio.specs.Known.{IsContract, childless}
-use Rattle.act_portfolio.specs.Reading.{Accepted, IsAccepted, accepted, contracts_from, first_repeated, plans_from, portfolio_listed, unrepeated, within_limit}
+use Rattle.act_portfolio.specs.Known.{IsContract, checked_plans, childless}
+use Rattle.act_portfolio.specs.Reading.{IsAccepted, accepted, contracts_from, first_repeated, plans_from, portfolio_listed, unrepeated, within_limit}
 use Rattle.act_portfolio.specs.Refusal.{Refusal, refused_terms, refusing}
 use Rattle.act_portfolio.proofs.PlannedSoFar.{each_planned}
 use Rattle.act_portfolio.proofs.ReadSoFar.{Read}
 
 -- ---- the portfolio, or its refusal, step by step
 
-module _ (contracts : List Data) where
-  pub refused_contracts : (refusal : Refusal) → contracts_from zero no_names contracts ≡ Err refusal → portfolio_listed contracts ≡ Err refusal
+regrouped : {A B C D : Type 0} (a : Result A Refusal) (b : Result B Refusal) (c : Result C Refusal) (f : C → D) → then_ok (λ few. then_ok (λ ids. then_ok (λ plans. Ok (f plans)) c) b) a ≡ map_ok f (then_ok (λ few. then_ok (λ ids. c) b) a)
+regrouped (Err refusal) b c f = refl
+regrouped (Ok a) (Err refusal) c f = refl
+regrouped (Ok a) (Ok b) (Err refusal) f = refl
+regrouped (Ok a) (Ok b) (Ok c) f = refl
+
+pub refused_contracts : (contracts : List Data) (refusal : Refusal) → contracts_from zero no_names contracts ≡ Err refusal → portfolio_listed contracts ≡ Err refusal
+unfolding portfolio_listed
+refused_contracts contracts refusal is = rw is refl
+
+module _ (contracts : List Data) (named : List NamedTerms) (names : NameLists) (read : contracts_from zero no_names contracts ≡ Ok (named, names)) where
+  by_checks : portfolio_listed contracts ≡ map_ok (accepted contracts named names) (checked_plans contracts named)
   unfolding portfolio_listed
-  refused_contracts refusal is = rw is refl
+  by_checks = rw read (regrouped (within_limit contracts) (unrepeated (first_repeated [] (map (λ c. c.id) named)) (map (λ c. c.id) named)) (plans_from zero (map (λ c. c.terms) named)) (accepted contracts named names))
 
-  pub limit_kept : length contracts ≤ 4096 → within_limit contracts ≡ Ok contracts
-  limit_kept few = let e : nat_lt 4096 (length contracts) ≡ false = grind (arith, nat_tests) in rw e refl
+  pub refused_checks : (refusal : Refusal) → checked_plans contracts named ≡ Err refusal → portfolio_listed contracts ≡ Err refusal
+  refused_checks refusal is = by_checks ∙ ap (map_ok (accepted contracts named names)) is
 
-  module _ (named : List NamedTerms) (names : NameLists) (read : contracts_from zero no_names contracts ≡ Ok (named, names)) where
-    pub refused_number : (refusal : Refusal) → within_limit contracts ≡ Err refusal → portfolio_listed contracts ≡ Err refusal
-    unfolding portfolio_listed
-    refused_number refusal is = rw (read, is) refl
+  accepts : (plans : List EventPlan) → checked_plans contracts named ≡ Ok plans → portfolio_listed contracts ≡ Ok (accepted contracts named names plans)
+  accepts plans is = by_checks ∙ ap (map_ok (accepted contracts named names)) is
 
-    module _ (few : length contracts ≤ 4096) where
-      pub refused_names : (refusal : Refusal) → unrepeated (first_repeated [] (map (λ c. c.id) named)) (map (λ c. c.id) named) ≡ Err refusal → portfolio_listed contracts ≡ Err refusal
-      unfolding portfolio_listed
-      refused_names refusal is = rw (read, limit_kept few, is) refl
+last_of : {A B C : Type 0} (a : Result A Refusal) (b : Result B Refusal) (c : Result C Refusal) (x : C) → then_ok (λ few. then_ok (λ ids. c) b) a ≡ Ok x → c ≡ Ok x
+last_of (Err refusal) b c x is = absurd (cc)
+last_of (Ok a) (Err refusal) c x is = absurd (cc)
+last_of (Ok a) (Ok b) c x is = is
 
-      module _ (once : first_repeated [] (map (λ c. c.id) named) ≡ None) where
-        pub refused_plans : (refusal : Refusal) → plans_from zero (map (λ c. c.terms) named) ≡ Err refusal → portfolio_listed contracts ≡ Err refusal
-        unfolding portfolio_listed
-        refused_plans refusal is = rw (read, limit_kept few, once, is) refl
-
-        pub accepts : (plans : List EventPlan) → plans_from zero (map (λ c. c.terms) named) ≡ Ok plans → portfolio_listed contracts ≡ Ok (accepted contracts named names plans)
-        unfolding portfolio_listed
-        accepts plans is = rw (read, limit_kept few, once, is) refl
+-- contracts that are checked have their plans
+plans_are : (contracts : List Data) (named : List NamedTerms) (plans : List EventPlan) → checked_plans contracts named ≡ Ok plans → plans_from zero (map (λ c. c.terms) named) ≡ Ok plans
+plans_are contracts named plans is =
+    last_of (within_limit contracts) (unrepeated (first_repeated [] (map (λ c. c.id) named)) (map (λ c. c.id) named)) (plans_from zero (map (λ c. c.terms) named)) plans is
 
 -- ---- what is true of an accepted portfolio
 
@@ -104,9 +107,9 @@ as_many_read (d ∷ ds) i names named after is = with_first ds (as_many_read ds)
 
 module _ (contracts : List Data) (named : List NamedTerms) (read : NameLists) (names : NameLists) (terms : List Terms) (plans : List EventPlan) (unused : List (List (List ℕ))) where
   module _ (are_read : contracts_from zero no_names contracts ≡ Ok (named, read)) (few : length contracts ≤ 4096) (names_are : names ≡ record read { contracts = map (λ c. c.id) named }) (terms_are : terms ≡ map (λ c. c.terms) named)
-      (planned : plans_from zero (map (λ c. c.terms) named) ≡ Ok plans) (unused_are : unused ≡ map unused_names contracts) where
-    pub whole : first_repeated [] (map (λ c. c.id) named) ≡ None → portfolio_listed contracts ≡ Ok (childless names terms plans unused)
-    whole once = accepts contracts named read are_read few once plans planned ∙ rw (names_are, terms_are, unused_are, map-map) refl
+      (planned : checked_plans contracts named ≡ Ok plans) (unused_are : unused ≡ map unused_names contracts) where
+    pub whole : portfolio_listed contracts ≡ Ok (childless names terms plans unused)
+    whole = accepts contracts named read are_read plans planned ∙ rw (names_are, terms_are, unused_are, map-map) refl
 
     pub holds : All IsContract named → length read.codes ≤ 4 * length contracts → length read.currencies ≤ 2 * length contracts → IsAccepted names terms plans unused
     holds known codes currencies =
@@ -114,7 +117,7 @@ module _ (contracts : List Data) (named : List NamedTerms) (read : NameLists) (n
         record {
           kinds = λ c t here. at_place (λ t. type_of t.kind ≡ PAM) named (λ k d within. (known k d within).kind) c t (rw terms_are at here);
           cycles = λ c t here. at_place HasCycles named (λ k d within. (known k d within).cycles) c t (rw terms_are at here);
-          planned = rw terms_are (each_planned (map (λ c. c.terms) named) zero plans planned);
+          planned = rw terms_are (each_planned (map (λ c. c.terms) named) zero plans (plans_are contracts named plans planned));
           ids = rw (names_are, terms_are) (length-map named (λ c. c.id) ∙ sym (length-map named (λ c. c.terms)));
           unused_lists = rw (unused_are, terms_are) (omega (arith, length-map contracts unused_names, length-map named (λ c. c.terms)));
           few = rw terms_are (omega (arith, length-map named (λ c. c.terms)));

@@ -1,5 +1,5 @@
 -- The names of contracts, gone through one by one.
-use Rattle.std.proofs.Common.{◌≡◌, ℕ, ◌+◌, true, List, [], ◌∷◌, ◌++◌, length, Option, Some, None, is_some, refl, ap, sym, ◌∙◌, append_assoc, append-nil, length-append, arith}
+use Rattle.std.proofs.Common.{◌≡◌, ℕ, ◌+◌, true, List, [], ◌∷◌, ◌++◌, length, Some, None, is_some, refl, ap, sym, ◌∙◌, append_assoc, append-nil, length-append, arith}
 use Rattle.act_model.specs.Names.{place_of}
 use Rattle.act_portfolio.specs.Reading.{first_repeated}
 

@@ -1,5 +1,5 @@
 -- What is known of contracts on the way to a portfolio.
-use Rattle.std.specs.Prelude.{◌≡◌, ℕ, true, false, List, [], codes, map}
+use Rattle.std.specs.Prelude.{◌≡◌, ℕ, zero, true, false, List, [], codes, map, Result}
 use Rattle.std.specs.Str.{bytes_eq}
 use Rattle.act_loan.specs.Cycles.{HasCycles}
 use Rattle.act_model.specs.Name.{is_name}
@@ -9,7 +9,9 @@ use Rattle.act_model.specs.declared.choice.ContractType.TheVariants.{PAM}
 use Rattle.act_model.specs.declared.terms.Terms.{Terms}
 use Rattle.act_profile.specs.Contract.{type_of}
 use Rattle.act_terms.specs.Contract.{NamedTerms}
-use Rattle.act_portfolio.specs.Reading.{Accepted}
+use Rattle.act_portfolio.specs.Reading.{Accepted, first_repeated, plans_from, unrepeated, within_limit}
+use Rattle.act_portfolio.specs.Refusal.{Refusal, ◌>>=◌}
+use Rattle.serde_json.specs.Data.{Data}
 
 -- a contract whose terms are read: its name is a name and no star, and it is a PAM whose cycles lead on
 pub record IsContract (c : NamedTerms) : Type 0 where
@@ -17,6 +19,13 @@ pub record IsContract (c : NamedTerms) : Type 0 where
   pub no_star : bytes_eq c.id (codes "*") ≡ false
   pub kind : type_of c.terms.kind ≡ PAM
   pub cycles : HasCycles c.terms
+
+-- the plans of contracts that are read from a list: there are no more than there may be, and no name comes twice
+abbrev pub checked_plans : List Data → List NamedTerms → Result (List EventPlan) Refusal
+checked_plans contracts named = do
+  few ← within_limit contracts
+  ids ← unrepeated (first_repeated [] (map (λ (c : NamedTerms). c.id) named)) (map (λ (c : NamedTerms). c.id) named)
+  plans_from zero (map (λ (c : NamedTerms). c.terms) named)
 
 -- the portfolio of contracts that refer to no others
 abbrev pub childless : NameLists → List Terms → List EventPlan → List (List (List ℕ)) → Accepted

@@ -1,6 +1,5 @@
 -- Refusals of a portfolio, and one step of reading after another. This profile's own.
-use Rattle.std.specs.Prelude.{ℕ, suc, List, [], ◌∷◌, codes, Option, Some, None, Result, Ok, Err, Vec}
-use Rattle.act_json.specs.declared.fault.JsonFault.{JsonFault}
+use Rattle.std.specs.Prelude.{ℕ, suc, List, codes, Option, Some, None, Result, Ok, Err}
 use Rattle.act_model.specs.declared.run.PlanFault.{PlanFault}
 use Rattle.act_model.specs.declared.run.PlanFault.TheVariants as plan
 use Rattle.act_profile.specs.Outcomes.{then_ok}

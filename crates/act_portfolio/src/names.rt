@@ -1,5 +1,5 @@
 //! The names of contracts.
-ghost use Rattle.std.specs.Prelude.{◌≡◌, ◌^◌, ◌≤◌, [], None, Err, IfErr, IfSome, OnOk, length, map};
+ghost use Rattle.std.specs.Prelude.{◌≡◌, ◌^◌, ◌≤◌, [], Ok, Err, IfErr, IfSome, OnOk, length, map};
 ghost use Rattle.std.specs.List.{All};
 ghost use Rattle.act_portfolio.specs.Known.{IsContract};
 ghost use Rattle.act_portfolio.specs.Reading.{first_repeated, unrepeated};
@@ -20,7 +20,8 @@ pub(crate) fn name_contracts(
     requires few { length named.now ≤ 2 ^ 28 }
     requires fresh { names.old.contracts ≡ [] }
     ensures names { OnOk result (names.new ≡ record names.old { contracts = map (λ c. c.id) named.now }) }
-    ensures unrepeated { OnOk result (first_repeated [] (map (λ c. c.id) named.now) ≡ None) }
+    ensures unrepeated { OnOk result (
+        unrepeated (first_repeated [] (map (λ c. c.id) named.now)) (map (λ c. c.id) named.now) ≡ Ok (map (λ c. c.id) named.now)) }
     ensures refused { IfErr result (λ fault. IfSome (refusal_of fault) (λ refusal.
         unrepeated (first_repeated [] (map (λ c. c.id) named.now)) (map (λ c. c.id) named.now) ≡ Err refusal)) }
 {

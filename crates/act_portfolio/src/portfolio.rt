@@ -78,6 +78,7 @@ impl Portfolio {
         requires contract { contract < length self.now.contracts.terms }
         ensures { slice_get self.now.contracts.children contract ≡ Some result.now }
     {
+        // No kind that is built refers to others.
         let _ = &self.terms;
         &[]
     }

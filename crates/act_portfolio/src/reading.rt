@@ -1,12 +1,13 @@
 //! Reading a portfolio file.
-ghost use Rattle.std.specs.Prelude.{◌≡◌, ◌*◌, ◌+◌, ◌^◌, ◌≤◌, Ok, Err, Some, IfOk, IfErr, IfSome, OnOk, length, map, string_bytes};
+ghost use Rattle.std.specs.Prelude.{◌≡◌, ◌*◌, ◌+◌, ◌^◌, ◌≤◌, [], Ok, Err, Some, IfOk, IfErr, IfSome, OnOk, length, map, string_bytes};
+ghost use Rattle.std.specs.List.{All};
 ghost use Rattle.std.specs.Option.{ForSome};
 ghost use Rattle.serde_json.specs.Events.{items_len};
 ghost use Rattle.serde_json.specs.Find.{as_array};
 ghost use Rattle.serde_json.specs.View.{items_view, view};
 ghost use Rattle.act_json.specs.Reading.{json_of};
 ghost use Rattle.act_model.specs.Names.{no_names};
-ghost use Rattle.act_portfolio.specs.Known.{childless};
+ghost use Rattle.act_portfolio.specs.Known.{IsContract, checked_plans, childless};
 ghost use Rattle.act_portfolio.specs.Reading.{IsAccepted, list_of, portfolio_listed, portfolio_of, within_limit};
 ghost use Rattle.act_portfolio.specs.Refusal.{no_json, refusal_of, refusing};
 
@@ -17,6 +18,7 @@ use crate::plans::{plan_contracts, unused_lists};
 use crate::portfolio::{MOST_BYTES, Portfolio};
 use act_json::{JsonFault, read};
 use act_model::{Names, Plan, Terms};
+use act_terms::NamedTerms;
 use serde_json::Value;
 use std::alloc::Global;
 
@@ -106,9 +108,7 @@ fn accepted(
         portfolio_listed (map view contracts.now) ≡ Err refusal)) }
 {
     let named = read_contracts(alloc, contracts, names)?;
-    within_limit(alloc, contracts)?;
-    name_contracts(alloc, &named, names)?;
-    let plans = plan_contracts(alloc, &named)?;
+    let plans = checked_plans(alloc, contracts, &named, names)?;
     let unused = unused_lists(alloc, contracts)?;
     let terms = terms_alone(alloc, named)?;
     Ok(Contracts {
@@ -118,8 +118,31 @@ fn accepted(
     })
 }
 
+/// The plans of contracts that are read, where there are no more than there may be and no name comes twice. The names
+/// of the contracts are added to the names.
+fn checked_plans(
+    alloc: Global,
+    contracts: &[Value],
+    named: &[NamedTerms],
+    names: &mut Names,
+) -> Result<Vec<Plan>, PortfolioFault>
+    requires contracts { All IsContract named.now }
+    requires few { length named.now ≤ 2 ^ 28 }
+    requires fresh { names.old.contracts ≡ [] }
+    ensures plans { IfOk result (λ plans. checked_plans (map view contracts.now) named.now ≡ Ok plans.items) }
+    ensures refused { IfErr result (λ fault. IfSome (refusal_of fault) (λ refusal.
+        checked_plans (map view contracts.now) named.now ≡ Err refusal)) }
+    ensures names { OnOk result (names.new ≡ record names.old { contracts = map (λ c. c.id) named.now }) }
+    ensures few_contracts { OnOk result (length contracts.now ≤ 4_096) }
+{
+    within_limit(alloc, contracts)?;
+    name_contracts(alloc, named, names)?;
+    plan_contracts(alloc, named)
+}
+
 /// Nothing where there are no more contracts than there may be.
 fn within_limit(alloc: Global, contracts: &[Value]) -> Result<(), PortfolioFault>
+    ensures within { OnOk result (within_limit (map view contracts.now) ≡ Ok (map view contracts.now)) }
     ensures few { OnOk result (length contracts.now ≤ 4_096) }
     ensures refused { IfErr result (λ fault. IfSome (refusal_of fault) (λ refusal.
         within_limit (map view contracts.now) ≡ Err refusal)) }

@@ -1,4 +1,4 @@
--- The texts that a choice may have. ACTUS data dictionary; the day count B252 is this profile's own.
+-- The texts that a choice may have. ACTUS data dictionary; the day count B252, and that `NULL` is no shift, are this profile's own.
 use Rattle.std.specs.Prelude.{ℕ, ◌==◌, ◌&&◌, ◌||◌, if◌then◌else◌, Bool, List, [], ◌∷◌, codes, Option, Some, None}
 use Rattle.std.specs.Str.{byte, bytes_eq}
 use Rattle.act_date.specs.declared.calendar.Calendar.{Calendar}

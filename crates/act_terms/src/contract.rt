@@ -23,7 +23,7 @@ use std::marker::Model;
 /// A contract's name and terms.
 #[derive(Drop)]
 pub struct NamedTerms {
-    /// The name, which is no star. It isn't among the names yet.
+    /// The name: 1 to 64 printable ASCII characters without space, and no star alone.
     pub id: String,
     /// The terms. Days count from 1970-01-01, and decimals are in units of 10^-9.
     pub terms: Terms,
@@ -43,9 +43,10 @@ impl Model for NamedTerms {
 /// name have their numbers among `names`, behind those of the contracts before; at most four codes and two currencies
 /// are added, and room for them is required. The contract's own name isn't added.
 ///
-/// Refused where a term is, with the first one in the order of the dictionary's tables, those of all contracts before
-/// those of the kind; that a penalty of lost interest needs the code of the reset rate is tried last. NoMemory where
-/// memory runs out. In either case codes and currencies may have been added.
+/// Refused where a term is, with the first one in the order of this profile's tables: first the terms that every
+/// contract has, then those of its kind; that a penalty of lost interest needs the code of the reset rate is tried
+/// last. A type that isn't built yet is refused where an unknown one is. NoMemory where memory runs out. Where it isn't
+/// read, codes and currencies may have been added all the same.
 #[tactic(auto, unfolding(crate::specs::Contract::contract_of))]
 pub fn read_contract(
     alloc: Global,

@@ -1,4 +1,4 @@
-use Rattle.std.proofs.Common.{◌≡◌, Err, map, IfSome, zero, sym, arith, rules, ◌∙◌}
+use Rattle.std.proofs.Common.{◌≡◌, Err, map, IfSome, zero, sym, rules}
 use Rattle.std.proofs.lemmas.List.{at_drop_all}
 use Rattle.std.proofs.lemmas.Option.{IfSome_then}
 use Rattle.serde_json.specs.View.{view}

@@ -1,11 +1,11 @@
-use Rattle.std.proofs.Common.{◌≡◌, false, true, Option, Some, None, Err, IfSome, codes, is_some, [], ◌∷◌, ◌++◌, map, sym, ap, ◌∙◌, refl, add-one}
+use Rattle.std.proofs.Common.{◌≡◌, false, true, Option, Some, None, Err, codes, is_some, [], ◌∷◌, ◌++◌, map, sym, ap, ◌∙◌, refl, add-one}
 use Rattle.std.proofs.lemmas.List.{at_drop_all}
 use Rattle.std.proofs.lemmas.Option.{IfSome_then}
 use Rattle.act_model.specs.Names.{NameLists, place_of}
 use Rattle.act_portfolio.specs.Reading.{unrepeated}
 use Rattle.act_portfolio.specs.Refusal.{refusal_of}
 use Rattle.act_portfolio.proofs.Lists.{left_from}
-use Rattle.act_portfolio.proofs.NamedSoFar.{all_named, none_repeated, one_named, one_repeated}
+use Rattle.act_portfolio.proofs.NamedSoFar.{none_repeated, one_named, one_repeated}
 use Rattle.act_portfolio.proofs.names.name_contracts.Goals as goal
 
 is_none : {A : Type 0} (o : Option A) → is_some o ≡ false → o ≡ None
@@ -34,4 +34,5 @@ loop-place-preserved c =
     })
 
 pub returns-clause-unrepeated : goal.returns-clause-unrepeated
-returns-clause-unrepeated c = none_repeated _ _ _ _ c.loop-place.invariant.so_far (at_drop_all (map (λ n. n.id)) _ _ c.loop-place-test.false)
+returns-clause-unrepeated c =
+    ap (λ first. unrepeated first (map (λ n. n.id) c.args.named.now)) (none_repeated _ _ _ _ c.loop-place.invariant.so_far (at_drop_all (map (λ n. n.id)) _ _ c.loop-place-test.false))

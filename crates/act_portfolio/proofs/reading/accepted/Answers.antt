@@ -1,12 +1,11 @@
-use Rattle.std.proofs.Common.{◌≡◌, ◌≤◌, Err, Ok, IfSome, List, None, map, length, string_bytes, zero, ap, sym, ◌∙◌, rules, arith}
+use Rattle.std.proofs.Common.{◌≡◌, Err, IfSome, map, zero, rules, arith}
 use Rattle.std.proofs.lemmas.List.{length-map}
 use Rattle.std.proofs.lemmas.Option.{IfSome_then}
 use Rattle.serde_json.specs.View.{view}
 use Rattle.act_model.specs.Names.{no_names}
-use Rattle.act_portfolio.specs.Reading.{contracts_from, first_repeated, plans_from, portfolio_listed}
-use Rattle.act_portfolio.specs.Refusal.{Refusal, refusal_of}
-use Rattle.act_portfolio.specs.declared.fault.PortfolioFault.{PortfolioFault}
-use Rattle.act_portfolio.proofs.Accepting.{as_many_read, holds, refused_contracts, refused_names, refused_number, refused_plans, whole}
+use Rattle.act_portfolio.specs.Reading.{portfolio_listed}
+use Rattle.act_portfolio.specs.Refusal.{refusal_of}
+use Rattle.act_portfolio.proofs.Accepting.{as_many_read, holds, refused_checks, refused_contracts, whole}
 use Rattle.act_portfolio.proofs.reading.accepted.Goals as goal
 
 pub returns-in_err-named-clause-refused : goal.returns-in_err-named-clause-refused
@@ -15,54 +14,30 @@ returns-in_err-named-clause-refused c =
     IfSome_then (refusal_of c.in_err-named.field-0.0) c.in_err-named.ensures.refused (λ refusal. refused_contracts (map view c.args.contracts.now) refusal) in
     search rules
 
-pub returns-in_err-within_limit-clause-refused : goal.returns-in_err-within_limit-clause-refused
-returns-in_err-within_limit-clause-refused c =
-    let whole : IfSome (refusal_of c.in_err-within_limit.field-0.0) (λ refusal. portfolio_listed (map view c.args.contracts.now) ≡ Err refusal) =
-    IfSome_then (refusal_of c.in_err-within_limit.field-0.0) c.in_err-within_limit.ensures.refused (λ refusal. refused_number (map view c.args.contracts.now) _ _ c.in_ok-named.ensures.read refusal) in
-    search rules
-
-pub name_contracts-requires-clause-few : goal.name_contracts-requires-clause-few
-name_contracts-requires-clause-few c =
+pub checked_plans-requires-clause-few : goal.checked_plans-requires-clause-few
+checked_plans-requires-clause-few c =
     let many = as_many_read (map view c.args.contracts.now) zero no_names _ _ c.in_ok-named.ensures.read in
     let few = c.requires.few in
     rw c.deref.ensures.value (omega (arith, length-map c.args.contracts.now view))
 
-pub returns-in_err-name_contracts-clause-refused : goal.returns-in_err-name_contracts-clause-refused
-returns-in_err-name_contracts-clause-refused c =
-    let limit = c.in_ok-within_limit.ensures.few in
-    let whole : IfSome (refusal_of c.in_err-name_contracts.field-0.0) (λ refusal. portfolio_listed (map view c.args.contracts.now) ≡ Err refusal) =
-    IfSome_then (refusal_of c.in_err-name_contracts.field-0.0) (rw c.deref.ensures.value at c.in_err-name_contracts.ensures.refused)
-    (λ refusal. refused_names (map view c.args.contracts.now) _ _ c.in_ok-named.ensures.read (omega (arith, length-map c.args.contracts.now view)) refusal) in
-    search rules
-
-pub plan_contracts-requires-clause-few : goal.plan_contracts-requires-clause-few
-plan_contracts-requires-clause-few c =
-    let many = as_many_read (map view c.args.contracts.now) zero no_names _ _ c.in_ok-named.ensures.read in
-    let few = c.requires.few in
-    rw c.deref-2.ensures.value (omega (arith, length-map c.args.contracts.now view))
-
 pub returns-in_err-plans-clause-refused : goal.returns-in_err-plans-clause-refused
 returns-in_err-plans-clause-refused c =
-    let limit = c.in_ok-within_limit.ensures.few in
-    let once = rw c.deref.ensures.value at c.in_ok-name_contracts.ensures.unrepeated in
     let whole : IfSome (refusal_of c.in_err-plans.field-0.0) (λ refusal. portfolio_listed (map view c.args.contracts.now) ≡ Err refusal) =
-    IfSome_then (refusal_of c.in_err-plans.field-0.0) (rw c.deref-2.ensures.value at c.in_err-plans.ensures.refused)
-    (λ refusal. refused_plans (map view c.args.contracts.now) _ _ c.in_ok-named.ensures.read (omega (arith, length-map c.args.contracts.now view)) once refusal) in
+    IfSome_then (refusal_of c.in_err-plans.field-0.0) (rw c.deref.ensures.value at c.in_err-plans.ensures.refused) (λ refusal. refused_checks (map view c.args.contracts.now) _ _ c.in_ok-named.ensures.read refusal) in
     search rules
 
 pub returns-clause-accepted : goal.returns-clause-accepted
 returns-clause-accepted c =
-    let limit = c.in_ok-within_limit.ensures.few in
-    let once = rw c.deref.ensures.value at c.in_ok-name_contracts.ensures.unrepeated in
-    let names = rw c.deref.ensures.value at c.in_ok-name_contracts.ensures.names in
-    let planned = rw c.deref-2.ensures.value at c.in_ok-plans.ensures.plans in
-    whole (map view c.args.contracts.now) c.in_ok-named.named.items _ _ _ _ _ c.in_ok-named.ensures.read (omega (arith, length-map c.args.contracts.now view)) names c.in_ok-terms.ensures planned c.in_ok-unused.ensures once
+    let few = c.in_ok-plans.ensures.few_contracts in
+    let names = rw c.deref.ensures.value at c.in_ok-plans.ensures.names in
+    let planned = rw c.deref.ensures.value at c.in_ok-plans.ensures.plans in
+    whole (map view c.args.contracts.now) c.in_ok-named.named.items _ _ _ _ _ c.in_ok-named.ensures.read (omega (arith, length-map c.args.contracts.now view)) names c.in_ok-terms.ensures planned c.in_ok-unused.ensures
 
 pub returns-clause-holds : goal.returns-clause-holds
 returns-clause-holds c =
-    let limit = c.in_ok-within_limit.ensures.few in
-    let names = rw c.deref.ensures.value at c.in_ok-name_contracts.ensures.names in
-    let planned = rw c.deref-2.ensures.value at c.in_ok-plans.ensures.plans in
+    let few = c.in_ok-plans.ensures.few_contracts in
+    let names = rw c.deref.ensures.value at c.in_ok-plans.ensures.names in
+    let planned = rw c.deref.ensures.value at c.in_ok-plans.ensures.plans in
     let read = c.in_ok-named.ensures in
     holds (map view c.args.contracts.now) c.in_ok-named.named.items _ _ _ _ _ read.read (omega (arith, length-map c.args.contracts.now view)) names c.in_ok-terms.ensures planned c.in_ok-unused.ensures read.contracts
     (omega (arith, read.few_codes, length-map c.args.contracts.now view)) (omega (arith, read.few_currencies, length-map c.args.contracts.now view))

@@ -1,4 +1,4 @@
-use Rattle.std.proofs.Common.{length, ap, sym, subst, ◌<◌, ◌∙◌}
+use Rattle.std.proofs.Common.{ap, sym, ◌∙◌}
 use Rattle.std.specs.List.{slice_get}
 use Rattle.act_portfolio.proofs.Counted.{no_children}
 use Rattle.act_portfolio.proofs.portfolio.Portfolio.children.Goals as goal

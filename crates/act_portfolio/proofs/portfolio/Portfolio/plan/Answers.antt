@@ -1,4 +1,4 @@
-use Rattle.std.proofs.Common.{Some, ap, ◌∙◌}
+use Rattle.std.proofs.Common.{ap, ◌∙◌}
 use Rattle.std.specs.List.{slice_get}
 use Rattle.act_portfolio.proofs.Accepting.{plan_at}
 use Rattle.act_portfolio.proofs.portfolio.Portfolio.plan.Goals as goal

@@ -1,6 +1,5 @@
-use Rattle.std.proofs.Common.{◌≡◌, ◌≤◌, length, ap, sym, ◌∙◌, arith}
+use Rattle.std.proofs.Common.{◌≡◌, length, ap, sym, ◌∙◌, arith}
 use Rattle.act_portfolio.specs.Counts.{scheduled_count}
-use Rattle.act_portfolio.specs.Known.{childless}
 use Rattle.act_portfolio.proofs.Counted.{counted}
 use Rattle.act_portfolio.proofs.portfolio.Portfolio.scheduled_count.Goals as goal
 
