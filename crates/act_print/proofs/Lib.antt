@@ -1,1 +1,15 @@
+pub mod AsksInTurn
 pub mod PutTogether
+pub mod PlainWords
+pub mod WordLaws
+pub mod Spaces
+pub mod LineLaws
+pub mod ItemLaws
+pub mod Readers
+pub mod TranscriptLaws
+pub mod Bytes
+pub mod Texts
+pub mod Whole
+pub mod Ended
+pub mod FirstLines
+pub mod Turns

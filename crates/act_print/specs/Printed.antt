@@ -1,6 +1,5 @@
 -- What is printed of answers: lists in place of vectors. This profile's own.
 use Rattle.std.specs.Prelude.{ℕ, List, map}
-use Rattle.act_model.specs.Answer.{Reply}
 use Rattle.act_model.specs.Run.{Stream}
 use Rattle.act_model.specs.declared.journal.Item.{Item}
 use Rattle.act_model.specs.declared.run.Close.{Close}
@@ -33,8 +32,3 @@ printed_row row =
 -- what is printed of a contract's run
 abbrev pub printed_block : ℕ × Stream → Block
 printed_block run = record { contract = run.0; rows = map printed_row run.1.rows; close = run.1.close }
-
--- what is printed of an answer
-abbrev pub printed_answer : Reply → Response
-printed_answer reply =
-    record { caller = reply.caller; number = reply.number; version = reply.version; blocks = map printed_block reply.runs }

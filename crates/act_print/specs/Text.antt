@@ -72,8 +72,8 @@ unfoldable pub answers_head_text : ℕ → List ℕ
 answers_head_text count = line_of (codes "answers") (decimal count ∷ [])
 
 -- the line above an answer: the caller, the number of its ask, and the version
-unfoldable pub head_text : ℕ → ℕ → ℕ → List ℕ
-head_text caller number version =
+unfoldable pub answer_head_text : ℕ → ℕ → ℕ → List ℕ
+answer_head_text caller number version =
     line_of (codes "answer") (decimal caller ∷ decimal number ∷ decimal version ∷ [])
 
 -- the line above the rows of a contract
@@ -93,7 +93,7 @@ block_text names block =
 -- the lines of an answer: its head, and its contracts
 unfoldable pub answer_text : NameLists → Response → List ℕ
 answer_text names answer =
-    head_text answer.caller answer.number answer.version ++ flat_map (block_text names) answer.blocks
+    answer_head_text answer.caller answer.number answer.version ++ flat_map (block_text names) answer.blocks
 
 -- the text of a journal and its answers
 unfoldable pub text_of : NameLists → List Item → List Response → List ℕ

@@ -13,7 +13,8 @@ use act_num::{Fixed, NoMemory};
 use act_text::{MOST_LINE, TextLine, code_name, contract_name};
 use itoa::Buffer;
 
-/// Adds the line of an item to `out`: the caller, and what it did. Where memory runs out, `out` is as before.
+/// Adds the line of an item to `out`: the caller, and what it did. The code or the contract that the step names has a
+/// name. Where memory runs out, `out` is as before.
 #[tactic(auto, unfolding(crate::specs::Text::item_text, act_model::specs::Name::has_form))]
 pub fn item_line(names: &Names, item: &Item, out: &mut Vec<u8>) -> Result<(), NoMemory>
     requires names { has_names names.now item.now.step ≡ true }

@@ -2,11 +2,22 @@
 #![tactic(auto)]
 
 mod asks;
+mod fault;
 mod heads;
 mod item;
+mod items;
+mod lines;
 mod printed;
+mod read;
+mod reader;
+mod rows;
+mod stop;
+mod transcript;
+mod words;
 
 pub use asks::Asking;
+pub use fault::TextFault;
 pub use heads::{answer_head, answers_head, block_head, journal_head};
 pub use item::item_line;
 pub use printed::{Printed, PrintedAnswer, PrintedBlock, PrintedRow};
+pub use read::{different_transcripts_have_different_texts, read_text};

@@ -47,7 +47,7 @@ impl Model for PrintedAnswer {
 pub struct PrintedBlock {
     /// The contract's number.
     pub contract: u32,
-    /// One row for each event, in order.
+    /// The rows, in the order in which they stand.
     pub rows: Vec<PrintedRow>,
     /// Why there are no more.
     pub close: Close,
@@ -68,7 +68,7 @@ pub struct PrintedRow {
     pub day: Day,
     /// The event's type.
     pub kind: EventType,
-    /// The currency of the payoff.
+    /// The number of the currency of the payoff.
     pub currency: u32,
     /// The payoff.
     pub payoff: Fixed,

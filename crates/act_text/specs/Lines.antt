@@ -1,5 +1,5 @@
 -- Lines of text, as bytes: those of a contract's rows and of how they close. This profile's own.
-use Rattle.std.specs.Prelude.{ℕ, nat_lt, Bool, true, ℤ, List, [], ◌∷◌, ◌++◌, length, slice_get, unwrap_or, codes}
+use Rattle.std.specs.Prelude.{ℕ, ℤ, List, [], ◌∷◌, ◌++◌, slice_get, unwrap_or, codes}
 use Rattle.act_num.specs.Decimal.{printed}
 use Rattle.act_date.specs.Text.{date_text}
 use Rattle.act_model.specs.Names.{NameLists}
@@ -59,9 +59,3 @@ unfoldable pub close_text : NameLists → Close → List ℕ
 close_text names End = line_of (codes "end") []
 close_text names (Missing code day) = line_of (codes "missing") (name_of names.codes code ∷ date_text day ∷ [])
 close_text names (Overflow day kind) = line_of (codes "overflow") (date_text day ∷ type_text kind ∷ [])
-
--- the code that rows lack, if any, is a number of the names
-abbrev pub has_code : NameLists → Close → Bool
-has_code names End = true
-has_code names (Missing code day) = nat_lt code (length names.codes)
-has_code names (Overflow day kind) = true

@@ -10,7 +10,8 @@ use act_model::{Close, EventType, Names, Row};
 use act_num::NoMemory;
 
 /// Adds the line of a row to `out`: day, type, currency, payoff, and of the state after the event the notional, the
-/// rate and the interest accrued. A currency without a name is left empty. Where memory runs out, `out` is as before.
+/// rate and the interest accrued. The number of a currency that has no name is left empty. Where memory runs out, `out` is
+/// as before.
 pub fn row_line(names: &Names, row: &Row, out: &mut Vec<u8>) -> Result<(), NoMemory>
     ensures ok { OnOk result (out.new.items ≡ out.old.items ++ row_text names.now row.now) }
     ensures err { OnErr result (out.new.items ≡ out.old.items) }
@@ -27,7 +28,7 @@ pub fn row_line(names: &Names, row: &Row, out: &mut Vec<u8>) -> Result<(), NoMem
 }
 
 /// Adds the line of how rows close to `out`: `end`, `missing` with the code and the day, or `overflow` with the day and
-/// the type. A code without a name is left empty. Where memory runs out, `out` is as before.
+/// the type. The number of a code that has no name is left empty. Where memory runs out, `out` is as before.
 #[tactic(auto, unfolding(crate::specs::Lines::close_text))]
 pub fn close_line(names: &Names, close: &Close, out: &mut Vec<u8>) -> Result<(), NoMemory>
     ensures ok { OnOk result (out.new.items ≡ out.old.items ++ close_text names.now close.now) }
