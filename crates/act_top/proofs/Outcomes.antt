@@ -3,7 +3,7 @@ use Rattle.std.proofs.Common.{◌≡◌, ℕ, List, [], ◌∷◌, Option, None,
 use Rattle.std.specs.Prelude.{⊤}
 use Rattle.std.proofs.lemmas.Option.{IfSome_then}
 use Rattle.act_io.specs.Put.{written_after}
-use Rattle.act_top.specs.Asked.{Asks, AsksBy, AsksFor, NamesFile}
+use Rattle.act_top.specs.Asked.{Asks, AsksBy, AsksFirst, AsksFor, NamesFile}
 use Rattle.act_top.specs.Command.{CommandWords, files_of, script_file}
 use Rattle.act_top.specs.Halts.{AsksFiles, halt_outcome, refusal_of}
 use Rattle.act_top.specs.Output.{EndsAs, Outcome, long_outcome, outcome_of, read_outcome, status_of}
@@ -17,6 +17,7 @@ use Rattle.act_top.specs.declared.top.Status.{Status}
 use Rattle.act_top.specs.declared.top.Status.TheVariants.{Done, Words, ReadFault, TooLong, PortfolioRefused, ScriptRefused, WriteFault, Unfinished, NoMemory}
 use Rattle.act_top.specs.declared.writing.Stop.{Stop}
 use Rattle.act_top.specs.declared.writing.Stop.TheVariants.{Sink as SinkStop, Memory}
+use Rattle.act_top.proofs.Halting.{first-all, first-one}
 
 -- ---- the wanted outcome
 
@@ -77,6 +78,24 @@ ends-halt told stopped written before after is status text = by_halt stopped is 
     by_halt (halt.ScriptRefused line) is status text = by_same _ is status text
     by_halt halt.Memory is status text = always (λ wanted. lost wanted written status)
 
+-- ---- where nothing failed
+
+-- where neither reading nor writing failed, the wanted status with its text, unless memory ran out
+pub ends-whole : (told : Option Outcome) (status : Status) (before after : Option (List ℕ)) (Unread Unwritten : Type 0) → IfSome told (λ wanted. EndsAs wanted status before after)
+    → (status ≡ ReadFault → Unread) → (status ≡ WriteFault → Unwritten) → ¬ Unread → ¬ Unwritten → IfSome told (λ wanted. (status ≡ NoMemory) ⊎ ((status ≡ wanted.status) × (after ≡ written_after before wanted.text)))
+ends-whole told status before after Unread Unwritten ended unread unwritten read wrote = IfSome_then told ended (λ wanted end. by_status wanted status unread unwritten end)
+  where
+    by_status : (wanted : Outcome) (s : Status) → (s ≡ ReadFault → Unread) → (s ≡ WriteFault → Unwritten) → EndsAs wanted s before after → (s ≡ NoMemory) ⊎ ((s ≡ wanted.status) × (after ≡ written_after before wanted.text))
+    by_status wanted Done unread unwritten end = inr end
+    by_status wanted Words unread unwritten end = inr end
+    by_status wanted ReadFault unread unwritten end = absurd (read (unread refl))
+    by_status wanted TooLong unread unwritten end = inr end
+    by_status wanted PortfolioRefused unread unwritten end = inr end
+    by_status wanted ScriptRefused unread unwritten end = inr end
+    by_status wanted WriteFault unread unwritten end = absurd (wrote (unwritten refl))
+    by_status wanted Unfinished unread unwritten end = inr end
+    by_status wanted NoMemory unread unwritten end = inl refl
+
 -- ---- the status
 
 -- the statuses of a task that was written
@@ -95,7 +114,7 @@ of-ended : (ended : Bool) → IsOfTask (if ended then Done else Unfinished)
 of-ended true = tt
 of-ended false = tt
 
-of-task : (t : Task) → IsOfTask (task_outcome t).status
+pub of-task : (t : Task) → IsOfTask (task_outcome t).status
 of-task (task.Check portfolio) = tt
 of-task (task.Evaluate evaluation) = of-ended _
 
@@ -135,7 +154,7 @@ pub asked-task : (command : CommandWords) (IsLine : List ℕ → Type 0) (t : Ta
     → IfOk written (λ status. status ≡ (task_outcome t).status) → AsksBy command (status_of written) IsLine before after
 asked-task command IsLine t (Ok status) before after asked is = of-files command IsLine status before after (subst IsOfTask (sym is) (of-task t)) asked
 asked-task command IsLine t (Err SinkStop) before after asked is = inr asked
-asked-task command IsLine t (Err Memory) before after asked is = tt
+asked-task command IsLine t (Err Memory) before after asked is = first-all command before after asked
 
 some-then : (script : Option (List ℕ)) (Q R : List ℕ → Type 0) → ((name : List ℕ) → Q name → R name) → IsSomeAnd script Q → IsSomeAnd script R
 some-then None Q R step is = absurd is
@@ -157,6 +176,11 @@ names-asks outcome command IsLine before after (inr some) = inr (by_script (scri
     by_script None some = absurd some
     by_script (Some s) both = both.0
 
+-- the portfolio, or all files
+either-first : (command : CommandWords) (before after : Option (List (List ℕ))) → Asks (command.portfolio ∷ []) before after ⊎ Asks (files_of command) before after → AsksFirst command before after
+either-first command before after (inl asked) = first-one command before after asked
+either-first command before after (inr asked) = first-all command before after asked
+
 -- where the line of a halt was written, or in part, the files up to it
 pub asked-halt : (A : Type 0) (command : CommandWords) (h : Halt) (written : Result Status Stop) (before after : Option (List (List ℕ))) (earlier later : Option (List ℕ)) → AsksFiles {A = A} command (Err h) before after
     → IfOk written (λ status. status ≡ (halt_outcome h).status) → Writes written (halt_outcome h).text earlier later → (h ≡ halt.Memory → written ≡ Err Memory) → AsksBy command (status_of written) (λ line. later ≡ written_after earlier line) before after
@@ -164,13 +188,17 @@ asked-halt A command (halt.Unread line) (Ok status) before after earlier later a
 asked-halt A command (halt.TooLong line) (Ok status) before after earlier later asked is text memory = rw is (names-line long_outcome command line.items before after earlier later asked text)
 asked-halt A command (halt.PortfolioRefused line) (Ok status) before after earlier later asked is text memory = rw is asked
 asked-halt A command (halt.ScriptRefused line) (Ok status) before after earlier later asked is text memory = rw is asked
-asked-halt A command halt.Memory (Ok status) before after earlier later asked is text memory = rw is tt
+asked-halt A command halt.Memory (Ok status) before after earlier later asked is text memory = rw is asked
 asked-halt A command (halt.Unread line) (Err SinkStop) before after earlier later asked is text memory = names-asks read_outcome command (λ text. line.items ≡ text) before after asked
 asked-halt A command (halt.TooLong line) (Err SinkStop) before after earlier later asked is text memory = names-asks long_outcome command (λ text. line.items ≡ text) before after asked
 asked-halt A command (halt.PortfolioRefused line) (Err SinkStop) before after earlier later asked is text memory = inl asked
 asked-halt A command (halt.ScriptRefused line) (Err SinkStop) before after earlier later asked is text memory = inr asked
 asked-halt A command halt.Memory (Err SinkStop) before after earlier later asked is text memory = let lost = memory refl in cc
-asked-halt A command h (Err Memory) before after earlier later asked is text memory = tt
+asked-halt A command (halt.Unread line) (Err Memory) before after earlier later asked is text memory = either-first command before after (names-asks read_outcome command (λ text. line.items ≡ text) before after asked)
+asked-halt A command (halt.TooLong line) (Err Memory) before after earlier later asked is text memory = either-first command before after (names-asks long_outcome command (λ text. line.items ≡ text) before after asked)
+asked-halt A command (halt.PortfolioRefused line) (Err Memory) before after earlier later asked is text memory = first-one command before after asked
+asked-halt A command (halt.ScriptRefused line) (Err Memory) before after earlier later asked is text memory = first-all command before after asked
+asked-halt A command halt.Memory (Err Memory) before after earlier later asked is text memory = asked
 
 -- ---- a command
 

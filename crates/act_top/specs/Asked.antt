@@ -1,5 +1,5 @@
 -- Which files a command asks for. This profile's own.
-use Rattle.std.specs.Prelude.{◌≡◌, ◌⊎◌, ℕ, List, [], ◌∷◌, ◌++◌, Option, Some, None, IsSomeAnd, option_map, ⊤}
+use Rattle.std.specs.Prelude.{◌≡◌, ◌⊎◌, ℕ, List, [], ◌∷◌, ◌++◌, take, Option, Some, None, IsSomeAnd, option_map}
 use Rattle.act_io.specs.Put.{written_after}
 use Rattle.act_top.specs.Command.{CommandWords, files_of, script_file}
 use Rattle.act_top.specs.Output.{Outcome, long_outcome, read_outcome}
@@ -10,6 +10,10 @@ use Rattle.act_top.specs.declared.top.Status.TheVariants.{Done, Words, ReadFault
 abbrev pub Asks : List (List ℕ) → Option (List (List ℕ)) → Option (List (List ℕ)) → Type 0
 Asks names before after = after ≡ option_map (λ (earlier : List (List ℕ)). earlier ++ names) before
 
+-- some of a command's files were asked for, from the first on: none, the portfolio, or all
+abbrev pub AsksFirst : CommandWords → Option (List (List ℕ)) → Option (List (List ℕ)) → Type 0
+AsksFirst command before after = (count : ℕ) × Asks (take count (files_of command)) before after
+
 -- a line names the portfolio, and that alone was asked for, or it names the script, and both were
 abbrev pub NamesFile : (List ℕ → Outcome) → CommandWords → (List ℕ → Type 0) → Option (List (List ℕ)) → Option (List (List ℕ)) → Type 0
 NamesFile outcome command IsLine before after =
@@ -17,8 +21,8 @@ NamesFile outcome command IsLine before after =
     ⊎ IsSomeAnd (script_file command.verb command.script) (λ script. Asks (command.portfolio ∷ script ∷ []) before after × IsLine (outcome script).text)
 
 -- what a command asked for, by the status that it ended with: its files in the order of its words, up to the one that the line names where
--- reading failed or a file is too long, and up to the portfolio where that is refused. Where writing failed either may be; nothing is said
--- where memory ran out
+-- reading failed or a file is too long, and up to the portfolio where that is refused. Where writing failed either may be, and where memory
+-- ran out it may have asked for none too
 abbrev pub AsksBy : CommandWords → Status → (List ℕ → Type 0) → Option (List (List ℕ)) → Option (List (List ℕ)) → Type 0
 AsksBy command Done IsLine before after = Asks (files_of command) before after
 AsksBy command Words IsLine before after = Asks [] before after
@@ -28,7 +32,7 @@ AsksBy command PortfolioRefused IsLine before after = Asks (command.portfolio �
 AsksBy command ScriptRefused IsLine before after = Asks (files_of command) before after
 AsksBy command WriteFault IsLine before after = Asks (command.portfolio ∷ []) before after ⊎ Asks (files_of command) before after
 AsksBy command Unfinished IsLine before after = Asks (files_of command) before after
-AsksBy command NoMemory IsLine before after = ⊤
+AsksBy command NoMemory IsLine before after = AsksFirst command before after
 
 -- what was asked for and written; other words ask for nothing
 abbrev pub AsksFor : Option CommandWords → Status → Option (List (List ℕ)) → Option (List (List ℕ)) → Option (List ℕ) → Option (List ℕ) → Type 0

@@ -1,7 +1,7 @@
 -- What a command comes to that stops before it writes its text: a line in its place, and the names that were asked for. This profile's own.
-use Rattle.std.specs.Prelude.{◌≡◌, ◌<◌, ℕ, List, [], ◌∷◌, length, Option, Some, None, IfSome, Result, Ok, Err, ⊤, Vec}
+use Rattle.std.specs.Prelude.{◌≡◌, ◌<◌, ◌⊎◌, ℕ, List, [], ◌∷◌, length, Option, Some, None, IfSome, Result, Ok, Err, ⊤, Vec}
 use Rattle.std.specs.declared.alloc.Global.{Global}
-use Rattle.act_top.specs.Asked.{Asks, NamesFile}
+use Rattle.act_top.specs.Asked.{Asks, AsksFirst, NamesFile}
 use Rattle.act_top.specs.Command.{CommandWords, files_of}
 use Rattle.act_top.specs.Output.{Outcome, long_outcome, most_bytes, read_outcome}
 use Rattle.act_top.specs.declared.halt.Halt.{Halt}
@@ -56,21 +56,21 @@ OnUnread (Err halt.Memory) holds = ⊤
 
 -- ---- the names
 
--- the file of that name was asked for, and the line of its fault names it; nothing is said where memory ran out. A portfolio and a script are
--- refused only where that may be
+-- the file of that name was asked for, and the line of its fault names it; where memory ran out it may not have been asked for. A portfolio and
+-- a script are refused only where that may be
 abbrev pub AsksFile : {A : Type 0} → Type 0 → Type 0 → List ℕ → Result A Halt → Option (List (List ℕ)) → Option (List (List ℕ)) → Type 0
 AsksFile portfolio script name (Ok value) before after = Asks (name ∷ []) before after
 AsksFile portfolio script name (Err (halt.Unread line)) before after = Asks (name ∷ []) before after × (line.items ≡ (read_outcome name).text)
 AsksFile portfolio script name (Err (halt.TooLong line)) before after = Asks (name ∷ []) before after × (line.items ≡ (long_outcome name).text)
 AsksFile portfolio script name (Err (halt.PortfolioRefused line)) before after = portfolio × Asks (name ∷ []) before after
 AsksFile portfolio script name (Err (halt.ScriptRefused line)) before after = script × Asks (name ∷ []) before after
-AsksFile portfolio script name (Err halt.Memory) before after = ⊤
+AsksFile portfolio script name (Err halt.Memory) before after = Asks [] before after ⊎ Asks (name ∷ []) before after
 
--- the script file was asked for, where there is one, in the same way
+-- the script file was asked for, where there is one, in the same way; where there is none, nothing was
 abbrev pub AsksScript : {A : Type 0} → Option (List ℕ) → Result A Halt → Option (List (List ℕ)) → Option (List (List ℕ)) → Type 0
 AsksScript (Some name) result before after = AsksFile ⊥ ⊤ name result before after
 AsksScript None (Ok value) before after = Asks [] before after
-AsksScript None (Err halt) before after = RefusesOnly ⊥ (Asks [] before after) halt
+AsksScript None (Err halt) before after = RefusesOnly ⊥ ⊤ halt × Asks [] before after
 
 -- what a command asked for once it may write, or where it stopped
 abbrev pub AsksFiles : {A : Type 0} → CommandWords → Result A Halt → Option (List (List ℕ)) → Option (List (List ℕ)) → Type 0
@@ -79,4 +79,4 @@ AsksFiles command (Err (halt.Unread line)) before after = NamesFile read_outcome
 AsksFiles command (Err (halt.TooLong line)) before after = NamesFile long_outcome command (λ text. line.items ≡ text) before after
 AsksFiles command (Err (halt.PortfolioRefused line)) before after = Asks (command.portfolio ∷ []) before after
 AsksFiles command (Err (halt.ScriptRefused line)) before after = Asks (files_of command) before after
-AsksFiles command (Err halt.Memory) before after = ⊤
+AsksFiles command (Err halt.Memory) before after = AsksFirst command before after

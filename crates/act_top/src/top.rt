@@ -7,8 +7,8 @@ ghost use Rattle.act_top.specs.Command.{command_of};
 ghost use Rattle.act_top.specs.Halts.{halt_outcome};
 ghost use Rattle.act_top.specs.Output.{EndsAs, outcome_of, read_outcome, status_of, words_outcome};
 ghost use Rattle.act_top.specs.Tasks.{task_outcome};
-ghost use Rattle.act_top.specs.Written.{Writes};
-ghost use Rattle.act_top.specs.declared.top.Status.TheVariants.{ReadFault, Words, WriteFault};
+ghost use Rattle.act_top.specs.Written.{IsPart, IsPartOfUnread, Writes};
+ghost use Rattle.act_top.specs.declared.top.Status.TheVariants.{NoMemory, ReadFault, Words, WriteFault};
 ghost use Rattle.act_top.specs.declared.writing.Stop.TheVariants.{Sink as SinkStop, Memory as MemoryStop};
 
 use crate::check::write_check;
@@ -71,6 +71,21 @@ pub fn eval_top<F: Files, K: Sink, L: Ledger>(
     ensures asked { AsksFor (command_of (map string_bytes words.now)) result
         (F.asked files.old) (F.asked files.new) (K.written out.old) (K.written out.new) }
     ensures write_fault { result ≡ WriteFault → Rose (K.faults out.old) (K.faults out.new) }
+
+    // Where writing failed or memory ran out, what was written is a first part of the wanted text, or, where reading
+    // failed, of the line with the file's name.
+    ensures part { (result ≡ WriteFault) ⊎ (result ≡ NoMemory) →
+        IfSome (outcome_of (F.content files.old) (command_of (map string_bytes words.now))) (λ wanted.
+        IsPart wanted.text (K.written out.old) (K.written out.new)
+        ⊎ (Rose (F.faults files.old) (F.faults files.new)
+        × IsSomeAnd (command_of (map string_bytes words.now)) (λ command.
+        IsPartOfUnread command (K.written out.old) (K.written out.new)))) }
+
+    // Where neither reading nor writing failed, the wanted text is written whole, unless memory ran out.
+    ensures complete { ¬ Rose (F.faults files.old) (F.faults files.new) → ¬ Rose (K.faults out.old) (K.faults out.new) →
+        IfSome (outcome_of (F.content files.old) (command_of (map string_bytes words.now))) (λ wanted.
+        (result ≡ NoMemory)
+        ⊎ ((result ≡ wanted.status) × (K.written out.new ≡ written_after (K.written out.old) wanted.text))) }
 {
     let Some(command) = Command::of(words) else {
         return status_of(refuse_words(out));
