@@ -15,13 +15,14 @@ use Rattle.act_model.specs.declared.journal.Step.TheVariants.{Append, Ask}
 use Rattle.act_model.specs.declared.observed.Obs.{Obs}
 use Rattle.act_io.specs.Put.{written_after}
 use Rattle.act_portfolio.specs.Reading.{Accepted}
-use Rattle.act_print.specs.Asks.{asks_from, asks_of}
+use Rattle.act_print.specs.Asks.{asks_of, caller_asks}
 use Rattle.act_print.specs.Printed.{Block, Response}
 use Rattle.act_print.specs.Text.{answer_text, text_of}
 use Rattle.act_print.specs.declared.asks.Asking.{Asking}
 use Rattle.act_script.specs.Reading.{Script}
 use Rattle.act_script.specs.Step.{is_append}
 use Rattle.act_script.specs.Weight.{Tariff, ask_weight, overweight, script_asks}
+use Rattle.act_print.proofs.AsksInTurn.{asks_from, asks_in_turn}
 use Rattle.act_top.specs.Output.{all_end, book_of, is_end, items_of, output_of, response_of, responses_of, tariff_of, too_much_asked}
 use Rattle.act_top.specs.Ready.{opening_text}
 use Rattle.act_top.specs.Written.{IsPart}
@@ -61,8 +62,8 @@ asks-none caller number version (line ∷ lines) other = none-by caller number v
 pub one-caller : (lines : List Line) → asks_of (items_of lines) ≡ asks_from 1 1 0 (items_of lines)
 unfolding asks_of
 one-caller lines =
-    let none = λ (caller : ℕ) (other : (1 == caller) ≡ false). asks-none caller 1 0 lines other in
-    rw (none 2 refl, none 3 refl, none 4 refl, none 5 refl, none 6 refl, none 7 refl, none 8 refl, none 9 refl, none 10 refl, none 11 refl, none 12 refl, none 13 refl, none 14 refl, none 15 refl, none 16 refl)
+    let none : (caller : ℕ) → (1 == caller) ≡ false → caller_asks (items_of lines) caller ≡ [] = λ caller other. asks_in_turn (items_of lines) caller ∙ asks-none caller 1 0 lines other in
+    rw (asks_in_turn (items_of lines) 1, none 2 refl, none 3 refl, none 4 refl, none 5 refl, none 6 refl, none 7 refl, none 8 refl, none 9 refl, none 10 refl, none 11 refl, none 12 refl, none 13 refl, none 14 refl, none 15 refl, none 16 refl)
     (append-nil (asks_from 1 1 0 (items_of lines)))
 
 -- ---- counts

@@ -4,7 +4,7 @@ ghost use Rattle.std.specs.List.{All, flat_map, list_all};
 ghost use Rattle.act_io.specs.Faults.{Rose};
 ghost use Rattle.act_print.specs.Asks.{contracts_of};
 ghost use Rattle.act_print.specs.Printed.{Block};
-ghost use Rattle.act_print.specs.Text.{answer_text, answers_head_text, block_text, head_text};
+ghost use Rattle.act_print.specs.Text.{answer_head_text, answer_text, answers_head_text, block_text};
 ghost use Rattle.act_script.specs.Step.{is_known};
 ghost use Rattle.act_top.specs.Output.{all_end, block_of, book_of, is_end, items_of, output_of, response_of, responses_of};
 ghost use Rattle.act_top.specs.Ready.{opening_text};
@@ -185,7 +185,7 @@ fn write_answer_head<K: Sink>(
     line: &mut Vec<u8>,
     ask: Asking,
 ) -> Result<(), Stop>
-    ensures text { Writes result (head_text ask.caller ask.number ask.version) (K.written out.old) (K.written out.new) }
+    ensures text { Writes result (answer_head_text ask.caller ask.number ask.version) (K.written out.old) (K.written out.new) }
     ensures failed { result ≡ Err SinkStop → Rose (K.faults out.old) (K.faults out.new) }
     ensures count { K.faults out.old ≤ K.faults out.new }
 {
