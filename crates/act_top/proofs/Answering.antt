@@ -25,7 +25,8 @@ use Rattle.act_script.specs.Weight.{Tariff, ask_weight, overweight, script_asks}
 use Rattle.act_print.proofs.AsksInTurn.{asks_from, asks_in_turn}
 use Rattle.act_top.specs.Output.{all_end, book_of, is_end, items_of, output_of, response_of, responses_of, tariff_of, too_much_asked}
 use Rattle.act_top.specs.Ready.{opening_text}
-use Rattle.act_top.specs.Written.{IsPart}
+use Rattle.act_top.specs.Written.{IsPartAt}
+use Rattle.act_top.specs.declared.writing.Stop.{Stop}
 use Rattle.act_top.proofs.Texts.{Left, left-all, left-next, left-none, left-part}
 
 -- whether a line is an ask, and whether it appends
@@ -209,9 +210,9 @@ module _ (portfolio : Accepted) (names : NameLists) (book : List Obs) (lines : L
     }
 
     -- an answer was written in part
-    pub answering-part : (asked : Asked) (next : Option (List ℕ)) → line.step ≡ Ask asked → IsPart (answer_text names (answer asked)) now next →
-        IsPart (flat_map (answer_text names) (answers 1 0 lines)) before next
-    answering-part asked next is part = left-part _ _ _ _ _ _ _ answering.text (ap (flat_map (answer_text names)) (answers-next asked is)) part
+    pub answering-part : (stop : Stop) (asked : Asked) (next : Option (List ℕ)) → line.step ≡ Ask asked → IsPartAt stop (answer_text names (answer asked)) now next →
+        IsPartAt stop (flat_map (answer_text names) (answers 1 0 lines)) before next
+    answering-part stop asked next is part = left-part stop _ _ _ _ _ _ _ answering.text (ap (flat_map (answer_text names)) (answers-next asked is)) part
 
     -- the numbers that come next are numbers of their types
     pub number-fits : (asked : Asked) → line.step ≡ Ask asked → number ≤ 4_194_304

@@ -16,6 +16,7 @@ use Rattle.act_top.specs.declared.top.Status.TheVariants.{ReadFault, TooLong, Po
 use Rattle.act_top.specs.declared.writing.Stop.{Stop}
 use Rattle.act_top.specs.declared.writing.Stop.TheVariants.{Sink as SinkStop, Memory}
 use Rattle.act_top.proofs.Outcomes.{IsOfTask, of-task}
+use Rattle.act_top.proofs.Texts.{part-any}
 
 -- writing failed, or memory ran out
 abbrev pub IsCut : Status → Type 0
@@ -31,7 +32,7 @@ IsCutText given Failed before after wanted = IsPart wanted.text before after ⊎
 part-of : (outcome : Outcome) (written : Result Status Stop) (before after : Option (List ℕ)) → (IsCut outcome.status → ⊥) → IfOk written (λ status. status ≡ outcome.status)
     → Writes written outcome.text before after → IsCut (status_of written) → IsPart outcome.text before after
 part-of outcome (Ok status) before after other is text cut = absurd (other (subst IsCut is cut))
-part-of outcome (Err SinkStop) before after other is text cut = text
+part-of outcome (Err SinkStop) before after other is text cut = part-any SinkStop outcome.text before after text
 part-of outcome (Err Memory) before after other is text cut = text
 
 -- nothing is a part of each text

@@ -1,11 +1,13 @@
 -- Texts that are written piece by piece, and counts of faults over several calls.
-use Rattle.std.proofs.Common.{◌≡◌, ℕ, ◌+◌, ◌<◌, ◌≤◌, zero, suc, List, [], ◌∷◌, ◌++◌, length, take, drop, get_or, drop-cons, add-one, Option, None, Some, Result, Ok, Err, refl, sym, ap, ◌∙◌, arith, append_assoc, append-nil}
+use Rattle.std.proofs.Common.{◌≡◌, ℕ, ◌+◌, ◌<◌, ◌≤◌, zero, suc, List, [], ◌∷◌, ◌++◌, length, take, drop, get_or, drop-cons, add-one, Option, None, Some, Result, Ok, Err, refl, sym, ap, subst, ◌∙◌, arith, append_assoc, append-nil, length-append}
 use Rattle.std.specs.Result.{IsErrAnd}
 use Rattle.std.proofs.Math.Seq.{take-append-add}
-use Rattle.std.proofs.lemmas.List.{take-append-drop, length-take, drop_all}
+use Rattle.std.proofs.lemmas.List.{take-append-drop, take-append-le, length-take, drop_all}
 use Rattle.act_io.specs.Faults.{Rose}
 use Rattle.act_io.specs.Put.{written_after}
-use Rattle.act_top.specs.Written.{IsPart, Writes}
+use Rattle.act_top.specs.Written.{IsPart, IsPartAt, IsProperPart, Writes}
+use Rattle.act_top.specs.declared.writing.Stop.{Stop}
+use Rattle.act_top.specs.declared.writing.Stop.TheVariants.{Sink as SinkStop, Memory}
 
 -- ---- lists
 
@@ -57,38 +59,56 @@ written-piece before middle after m n text piece within rest first second =
 pub part-none : (text : List ℕ) (before : Option (List ℕ)) → IsPart text before before
 part-none text before = record { bytes = 0; put = sym (written-nothing before) }
 
+-- what was written up to a stop is a part
+pub part-any : (stop : Stop) (text : List ℕ) (before after : Option (List ℕ)) → IsPartAt stop text before after → IsPart text before after
+part-any SinkStop text before after part = record { bytes = part.bytes; put = part.put }
+part-any Memory text before after part = part
+
 -- a part of a text is one of the text with more behind it
 pub cut : (n : ℕ) (a b : List ℕ) → (m : ℕ) × (take m (a ++ b) ≡ take n a)
 cut zero a b = (zero, refl)
 cut (suc n) [] b = (zero, refl)
 cut (suc n) (x ∷ a) b = let rest = cut n a b in (suc rest.0, ap (λ xs. x ∷ xs) rest.1)
 
-pub part-first : (a b : List ℕ) (before after : Option (List ℕ)) → IsPart a before after → IsPart (a ++ b) before after
-part-first a b before after part =
+pub part-first : (stop : Stop) (a b : List ℕ) (before after : Option (List ℕ)) → IsPartAt stop a before after → IsPartAt stop (a ++ b) before after
+part-first SinkStop a b before after part =
+    let within : part.bytes ≤ length a = omega (arith, part.fewer) in
+    record {
+      bytes = part.bytes;
+      fewer = omega (arith, part.fewer, length-append a b);
+      put = part.put ∙ ap (written_after before) (sym (take-append-le part.bytes a b within));
+    }
+part-first Memory a b before after part =
     let same = cut part.bytes a b in
     record { bytes = same.0; put = part.put ∙ ap (written_after before) (sym same.1) }
 
 -- a part behind a text that was written
-pub part-behind : (a b : List ℕ) (before middle after : Option (List ℕ)) → middle ≡ written_after before a → IsPart b middle after → IsPart (a ++ b) before after
-part-behind a b before middle after first part =
+pub part-behind : (stop : Stop) (a b : List ℕ) (before middle after : Option (List ℕ)) → middle ≡ written_after before a → IsPartAt stop b middle after → IsPartAt stop (a ++ b) before after
+part-behind SinkStop a b before middle after first part =
+    record {
+      bytes = length a + part.bytes;
+      fewer = omega (arith, part.fewer, length-append a b);
+      put = then-text before middle after a (take part.bytes b) first part.put ∙ ap (written_after before) (sym (take-append-add a b part.bytes));
+    }
+part-behind Memory a b before middle after first part =
     record {
       bytes = length a + part.bytes;
       put = then-text before middle after a (take part.bytes b) first part.put ∙ ap (written_after before) (sym (take-append-add a b part.bytes));
     }
 
 -- a text behind one that was written
-pub writes-behind : {A E : Type 0} (r : Result A E) (a b : List ℕ) (before middle after : Option (List ℕ)) → middle ≡ written_after before a → Writes r b middle after → Writes r (a ++ b) before after
+pub writes-behind : {A : Type 0} (r : Result A Stop) (a b : List ℕ) (before middle after : Option (List ℕ)) → middle ≡ written_after before a → Writes r b middle after → Writes r (a ++ b) before after
 writes-behind (Ok value) a b before middle after first second = then-text before middle after a b first second
-writes-behind (Err fault) a b before middle after first second = part-behind a b before middle after first second
+writes-behind (Err stop) a b before middle after first second = part-behind stop a b before middle after first second
 
--- where a fault is handed on, a part was written
-pub writes-part : {A E : Type 0} (r : Result A E) (Q : E → Type 0) (text : List ℕ) (before after : Option (List ℕ)) → IsErrAnd r Q → IsPart text before after → Writes r text before after
-writes-part (Ok value) Q text before after is part = absurd is
-writes-part (Err fault) Q text before after is part = part
+-- where a stop is handed on, a part was written
+pub writes-part : {A : Type 0} (r : Result A Stop) (stop : Stop) (text : List ℕ) (before after : Option (List ℕ)) → IsErrAnd r (λ s. s ≡ stop) → IsPartAt stop text before after → Writes r text before after
+writes-part (Ok value) stop text before after is part = absurd is
+writes-part (Err s) stop text before after is part = subst (λ (t : Stop). IsPartAt t text before after) (sym is) part
 
 -- the same of the first text of two
-pub writes-first : {A E : Type 0} (r : Result A E) (Q : E → Type 0) (a b : List ℕ) (before after : Option (List ℕ)) → IsErrAnd r Q → IsPart a before after → Writes r (a ++ b) before after
-writes-first r Q a b before after is part = writes-part r Q (a ++ b) before after is (part-first a b before after part)
+pub writes-first : {A : Type 0} (r : Result A Stop) (stop : Stop) (a b : List ℕ) (before after : Option (List ℕ)) → IsErrAnd r (λ s. s ≡ stop) → IsPartAt stop a before after → Writes r (a ++ b) before after
+writes-first r stop a b before after is part = writes-part r stop (a ++ b) before after is (part-first stop a b before after part)
 
 -- ---- what is left to be written
 
@@ -111,9 +131,9 @@ left-next whole left piece rest before now next text here put =
     }
 
 -- the next piece was written in part
-pub left-part : (whole left piece rest : List ℕ) (before now next : Option (List ℕ)) → Left whole left before now → left ≡ piece ++ rest → IsPart piece now next → IsPart whole before next
-left-part whole left piece rest before now next text here part =
-    let within = part-behind text.done (piece ++ rest) before now next text.put (part-first piece rest now next part) in
+pub left-part : (stop : Stop) (whole left piece rest : List ℕ) (before now next : Option (List ℕ)) → Left whole left before now → left ≡ piece ++ rest → IsPartAt stop piece now next → IsPartAt stop whole before next
+left-part stop whole left piece rest before now next text here part =
+    let within = part-behind stop text.done (piece ++ rest) before now next text.put (part-first stop piece rest now next part) in
     rw (text.split, here) within
 
 -- nothing is left

@@ -1,18 +1,31 @@
 -- Texts that are written piece by piece, up to a fault. This profile's own.
-use Rattle.std.specs.Prelude.{◌≡◌, ◌⊎◌, ℕ, List, take, Option, IsSomeAnd, Result, Ok, Err}
+use Rattle.std.specs.Prelude.{◌≡◌, ◌<◌, ◌⊎◌, ℕ, List, length, take, Option, IsSomeAnd, Result, Ok, Err}
 use Rattle.act_io.specs.Put.{written_after}
 use Rattle.act_top.specs.Command.{CommandWords, script_file}
 use Rattle.act_top.specs.Output.{read_outcome}
+use Rattle.act_top.specs.declared.writing.Stop.{Stop}
+use Rattle.act_top.specs.declared.writing.Stop.TheVariants.{Sink as SinkStop, Memory}
 
 -- a first part of a text was written behind what had been: nothing of it, something, or all
 pub record IsPart (text : List ℕ) (before after : Option (List ℕ)) : Type 0 where
   pub bytes : ℕ
   pub put : after ≡ written_after before (take bytes text)
 
--- a text was written whole, or, where a fault came, a first part of it
-abbrev pub Writes : {A E : Type 0} → Result A E → List ℕ → Option (List ℕ) → Option (List ℕ) → Type 0
+-- the same, but not all of it
+pub record IsProperPart (text : List ℕ) (before after : Option (List ℕ)) : Type 0 where
+  pub bytes : ℕ
+  pub fewer : bytes < length text
+  pub put : after ≡ written_after before (take bytes text)
+
+-- what was written of a text where writing stopped: not all of it where the sink failed
+abbrev pub IsPartAt : Stop → List ℕ → Option (List ℕ) → Option (List ℕ) → Type 0
+IsPartAt SinkStop text before after = IsProperPart text before after
+IsPartAt Memory text before after = IsPart text before after
+
+-- a text was written whole, or a first part of it where writing stopped
+abbrev pub Writes : {A : Type 0} → Result A Stop → List ℕ → Option (List ℕ) → Option (List ℕ) → Type 0
 Writes (Ok value) text before after = after ≡ written_after before text
-Writes (Err fault) text before after = IsPart text before after
+Writes (Err stop) text before after = IsPartAt stop text before after
 
 -- a first part was written of the line that says that one of the command's files wasn't read
 abbrev pub IsPartOfUnread : CommandWords → Option (List ℕ) → Option (List ℕ) → Type 0

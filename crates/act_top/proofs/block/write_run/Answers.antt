@@ -7,14 +7,14 @@ use Rattle.act_top.proofs.block.write_run.Goals as goal
 pub returns-in_err-write_block_head-clause-text : goal.returns-in_err-write_block_head-clause-text
 returns-in_err-write_block_head-clause-text g c =
     rw (block-parts c.args.names.now c.args.contract c.args.run.now)
-    (writes-first c.from_residual.result _ _ _ _ _ c.from_residual.ensures.1 (part-first _ _ _ _ c.in_err-write_block_head.ensures.text))
+    (writes-first c.from_residual.result _ _ _ _ _ c.from_residual.ensures.1 (part-first c.in_err-write_block_head.field-0.0 _ _ _ _ c.in_err-write_block_head.ensures.text))
 
 pub returns-in_err-write_rows-clause-text : goal.returns-in_err-write_rows-clause-text
 returns-in_err-write_rows-clause-text g c =
     let rows = c.deref.ensures.value ∙ ap (λ (run : Stream). run.rows) c.run.view_is in
     rw (block-parts c.args.names.now c.args.contract c.args.run.now)
     (writes-first c.from_residual-in_err-write_rows.result _ _ _ _ _ c.from_residual-in_err-write_rows.ensures.1
-    (part-behind _ _ _ _ _ c.in_ok-write_block_head.ensures.text (rw rows at c.in_err-write_rows.ensures.text)))
+    (part-behind c.in_err-write_rows.field-0.0 _ _ _ _ _ c.in_ok-write_block_head.ensures.text (rw rows at c.in_err-write_rows.ensures.text)))
 
 pub returns-clause-text : goal.returns-clause-text
 returns-clause-text g c =

@@ -13,7 +13,7 @@ returns-in_err-write_contract-clause-text g c =
     let of = at-place p.contracts.terms c.terms.result.now c.named-contract-end.result i c.index-terms-contract.result c.terms.ensures.terms c.named-contract-end.ensures.terms c.loop-contract-test.true c.index-terms-contract.is ∙ ap (λ (t : Terms). Some t) c.index-terms-contract.is in
     let within : i < length p.names.contracts = omega (arith, c.named-contract-end.ensures.named) in
     let here = contracts-next p i _ _ _ _ _ of (name-at p.names.contracts i within) c.unused.ensures (c.contract_name-id.ensures.text ∙ ap (λ (names : NameLists). name_of names.contracts i) c.requires.names) c.scheduled_count-count.ensures.count in
-    writes-part c.from_residual.result _ _ _ _ c.from_residual.ensures.1 (left-part _ _ _ _ _ _ _ c.loop-contract.invariant.text here c.in_err-write_contract.ensures.text)
+    writes-part c.from_residual.result _ _ _ _ c.from_residual.ensures.1 (left-part c.in_err-write_contract.field-0.0 _ _ _ _ _ _ _ c.loop-contract.invariant.text here c.in_err-write_contract.ensures.text)
 
 pub loop-contract-preserved : goal.loop-contract-preserved
 loop-contract-preserved g c =

@@ -8,7 +8,7 @@ use Rattle.act_top.proofs.check.write_unused.Goals as goal
 pub returns-in_err-write_unused_name-clause-text : goal.returns-in_err-write_unused_name-clause-text
 returns-in_err-write_unused_name-clause-text g c =
     let here = from-next (λ (names : List (String Global)). flat_map unused_line (map string_bytes names)) c.args.names.now c.loop-name.name-index c.name-item.result c.loop-name-test.true c.name-item.is in
-    writes-part c.from_residual.result _ _ _ _ c.from_residual.ensures.1 (left-part _ _ _ _ _ _ _ c.loop-name.invariant.text here (rw c.as_bytes.ensures.value at c.in_err-write_unused_name.ensures.text))
+    writes-part c.from_residual.result _ _ _ _ c.from_residual.ensures.1 (left-part c.in_err-write_unused_name.field-0.0 _ _ _ _ _ _ _ c.loop-name.invariant.text here (rw c.as_bytes.ensures.value at c.in_err-write_unused_name.ensures.text))
 
 pub loop-name-preserved : goal.loop-name-preserved
 loop-name-preserved g c =

@@ -9,7 +9,7 @@ use Rattle.act_top.proofs.journal.write_items.Goals as goal
 pub returns-in_err-write_item-clause-text : goal.returns-in_err-write_item-clause-text
 returns-in_err-write_item-clause-text g c =
     let here = from-next (λ (lines : List Line). flat_map (item_text c.args.names.now) (items_of lines)) c.args.lines.now c.loop-step.step-index c.step-item.result c.loop-step-test.true c.step-item.is in
-    writes-part c.from_residual.result _ _ _ _ c.from_residual.ensures.1 (left-part _ _ _ _ _ _ _ c.loop-step.invariant.text here c.in_err-write_item.ensures.text)
+    writes-part c.from_residual.result _ _ _ _ c.from_residual.ensures.1 (left-part c.in_err-write_item.field-0.0 _ _ _ _ _ _ _ c.loop-step.invariant.text here c.in_err-write_item.ensures.text)
 
 pub loop-step-preserved : goal.loop-step-preserved
 loop-step-preserved g c =

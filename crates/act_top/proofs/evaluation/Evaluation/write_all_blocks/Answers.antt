@@ -16,7 +16,7 @@ returns-in_err-ends-clause-text g c =
     let below : c.loop-contract.contract < length e.script.names.contracts =
     omega (arith, c.loop-contract-test.true, c.named-contract-end.ensures.named, ap length c.self.invariant.lines.contracts, ap (λ (v : Evaluation). length v.script.names.contracts) c.self.view_is) in
     let here = ap (λ (r : List ℕ). flat_map (block_text e.script.names) (map (block_of e.portfolio c.args.seen.now) r)) (range-next c.loop-contract.contract (length e.script.names.contracts) below) in
-    writes-part c.from_residual.result _ _ _ _ c.from_residual.ensures.1 (left-part _ _ _ _ _ _ _ c.loop-contract.invariant.text here c.in_err-ends.ensures.text)
+    writes-part c.from_residual.result _ _ _ _ c.from_residual.ensures.1 (left-part c.in_err-ends.field-0.0 _ _ _ _ _ _ _ c.loop-contract.invariant.text here c.in_err-ends.ensures.text)
 
 pub loop-contract-preserved : goal.loop-contract-preserved
 loop-contract-preserved g c =

@@ -33,7 +33,7 @@ returns-in_err-all_end-in-Ask-clause-text g c =
     let within : i < length e.script.lines = omega (arith, c.loop-step-test.true, ap length lines_are) in
     let here = drop-next e.script.lines i c.step-item.result within (c.step-item.is ∙ ap (λ (ls : List Line). get_or ls i c.step-item.result) lines_are) in
     let now = subst (λ (left : List Line). Answering e.portfolio e.script.names c.args.book.now e.script.lines left c.loop-step.number c.loop-step.version c.loop-step.ended (g.K.Sink.written c.args.out.now) (g.K.Sink.written c.loop-step.out)) here c.loop-step.invariant.answering in
-    let part = answering-part e.portfolio e.script.names c.args.book.now e.script.lines _ c.step-item.result _ c.loop-step.number c.loop-step.version c.loop-step.ended _ now c.in-Ask.asked _ c.in-Ask.is c.in_err-all_end-in-Ask.ensures.text in
+    let part = answering-part e.portfolio e.script.names c.args.book.now e.script.lines _ c.step-item.result _ c.loop-step.number c.loop-step.version c.loop-step.ended _ now c.in_err-all_end-in-Ask.field-0.0 c.in-Ask.asked _ c.in-Ask.is c.in_err-all_end-in-Ask.ensures.text in
     rw (responses-are e.portfolio e.script.names c.args.book.now e.script.lines c.requires) (writes-part c.from_residual.result _ _ _ _ c.from_residual.ensures.1 part)
 
 pub loop-step-preserved : goal.loop-step-preserved
