@@ -1,5 +1,5 @@
 -- The status that a command ends with.
-use Rattle.std.proofs.Common.{◌≡◌, ℕ, List, [], ◌∷◌, Option, None, Some, Result, Ok, Err, IfSome, IfOk, IsSomeAnd, inl, inr, ◌⊎◌, option_to_list, if◌then◌else◌, true, false, Bool, refl, sym, ap, subst, ◌∙◌}
+use Rattle.std.proofs.Common.{◌≡◌, ℕ, List, [], ◌∷◌, Option, None, Some, Result, Ok, Err, IfSome, IfOk, IsSomeAnd, inl, inr, ◌⊎◌, option_to_list, if◌then◌else◌, true, false, Bool, refl, sym, subst, ◌∙◌}
 use Rattle.std.specs.Prelude.{⊤}
 use Rattle.std.proofs.lemmas.Option.{IfSome_then}
 use Rattle.act_io.specs.Put.{written_after}
@@ -160,12 +160,12 @@ some-then : (script : Option (List ℕ)) (Q R : List ℕ → Type 0) → ((name 
 some-then None Q R step is = absurd is
 some-then (Some name) Q R step is = step name is
 
--- the line of a file that was written
-names-line : (outcome : List ℕ → Outcome) (command : CommandWords) (items : List ℕ) (before after : Option (List (List ℕ))) (earlier later : Option (List ℕ)) → NamesFile outcome command (λ text. items ≡ text) before after
-    → later ≡ written_after earlier items → NamesFile outcome command (λ text. later ≡ written_after earlier text) before after
-names-line outcome command items before after earlier later (inl both) text = inl (both.0, text ∙ ap (written_after earlier) both.1)
-names-line outcome command items before after earlier later (inr some) text =
-    inr (some-then (script_file command.verb command.script) _ (λ script. Asks (command.portfolio ∷ script ∷ []) before after × (later ≡ written_after earlier (outcome script).text)) (λ script both. (both.0, text ∙ ap (written_after earlier) both.1)) some)
+-- what holds of the line of a file
+pub names-line : (outcome : List ℕ → Outcome) (command : CommandWords) (items : List ℕ) (IsLine : List ℕ → Type 0) (before after : Option (List (List ℕ))) → NamesFile outcome command (λ text. items ≡ text) before after
+    → IsLine items → NamesFile outcome command IsLine before after
+names-line outcome command items IsLine before after (inl both) here = inl (both.0, subst IsLine both.1 here)
+names-line outcome command items IsLine before after (inr some) here =
+    inr (some-then (script_file command.verb command.script) _ (λ script. Asks (command.portfolio ∷ script ∷ []) before after × IsLine (outcome script).text) (λ script both. (both.0, subst IsLine both.1 here)) some)
 
 -- the files up to one that wasn't read
 names-asks : (outcome : List ℕ → Outcome) (command : CommandWords) (IsLine : List ℕ → Type 0) (before after : Option (List (List ℕ))) → NamesFile outcome command IsLine before after → Asks (command.portfolio ∷ []) before after ⊎ Asks (files_of command) before after
@@ -184,8 +184,8 @@ either-first command before after (inr asked) = first-all command before after a
 -- where the line of a halt was written, or in part, the files up to it
 pub asked-halt : (A : Type 0) (command : CommandWords) (h : Halt) (written : Result Status Stop) (before after : Option (List (List ℕ))) (earlier later : Option (List ℕ)) → AsksFiles {A = A} command (Err h) before after
     → IfOk written (λ status. status ≡ (halt_outcome h).status) → Writes written (halt_outcome h).text earlier later → (h ≡ halt.Memory → written ≡ Err Memory) → AsksBy command (status_of written) (λ line. later ≡ written_after earlier line) before after
-asked-halt A command (halt.Unread line) (Ok status) before after earlier later asked is text memory = rw is (names-line read_outcome command line.items before after earlier later asked text)
-asked-halt A command (halt.TooLong line) (Ok status) before after earlier later asked is text memory = rw is (names-line long_outcome command line.items before after earlier later asked text)
+asked-halt A command (halt.Unread line) (Ok status) before after earlier later asked is text memory = rw is (names-line read_outcome command line.items (λ (t : List ℕ). later ≡ written_after earlier t) before after asked text)
+asked-halt A command (halt.TooLong line) (Ok status) before after earlier later asked is text memory = rw is (names-line long_outcome command line.items (λ (t : List ℕ). later ≡ written_after earlier t) before after asked text)
 asked-halt A command (halt.PortfolioRefused line) (Ok status) before after earlier later asked is text memory = rw is asked
 asked-halt A command (halt.ScriptRefused line) (Ok status) before after earlier later asked is text memory = rw is asked
 asked-halt A command halt.Memory (Ok status) before after earlier later asked is text memory = rw is asked

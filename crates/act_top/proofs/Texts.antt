@@ -5,7 +5,7 @@ use Rattle.std.proofs.Math.Seq.{take-append-add}
 use Rattle.std.proofs.lemmas.List.{take-append-drop, take-append-le, length-take, drop_all}
 use Rattle.act_io.specs.Faults.{Rose}
 use Rattle.act_io.specs.Put.{written_after}
-use Rattle.act_top.specs.Written.{IsPart, IsPartAt, IsProperPart, Writes}
+use Rattle.act_top.specs.Written.{IsPart, IsPartAt, Writes}
 use Rattle.act_top.specs.declared.writing.Stop.{Stop}
 use Rattle.act_top.specs.declared.writing.Stop.TheVariants.{Sink as SinkStop, Memory}
 
@@ -58,11 +58,6 @@ written-piece before middle after m n text piece within rest first second =
 -- nothing is a part
 pub part-none : (text : List ℕ) (before : Option (List ℕ)) → IsPart text before before
 part-none text before = record { bytes = 0; put = sym (written-nothing before) }
-
--- what was written up to a stop is a part
-pub part-any : (stop : Stop) (text : List ℕ) (before after : Option (List ℕ)) → IsPartAt stop text before after → IsPart text before after
-part-any SinkStop text before after part = record { bytes = part.bytes; put = part.put }
-part-any Memory text before after part = part
 
 -- a part of a text is one of the text with more behind it
 pub cut : (n : ℕ) (a b : List ℕ) → (m : ℕ) × (take m (a ++ b) ≡ take n a)

@@ -1,8 +1,9 @@
 -- Texts that are written piece by piece, up to a fault. This profile's own.
 use Rattle.std.specs.Prelude.{◌≡◌, ◌<◌, ◌⊎◌, ℕ, List, length, take, Option, IsSomeAnd, Result, Ok, Err}
 use Rattle.act_io.specs.Put.{written_after}
-use Rattle.act_top.specs.Command.{CommandWords, script_file}
-use Rattle.act_top.specs.Output.{read_outcome}
+use Rattle.act_top.specs.Asked.{NamesFile}
+use Rattle.act_top.specs.Command.{CommandWords}
+use Rattle.act_top.specs.Output.{Outcome, read_outcome}
 use Rattle.act_top.specs.declared.writing.Stop.{Stop}
 use Rattle.act_top.specs.declared.writing.Stop.TheVariants.{Sink as SinkStop, Memory}
 
@@ -27,8 +28,8 @@ abbrev pub Writes : {A : Type 0} → Result A Stop → List ℕ → Option (List
 Writes (Ok value) text before after = after ≡ written_after before text
 Writes (Err stop) text before after = IsPartAt stop text before after
 
--- a first part was written of the line that says that one of the command's files wasn't read
-abbrev pub IsPartOfUnread : CommandWords → Option (List ℕ) → Option (List ℕ) → Type 0
-IsPartOfUnread command before after =
-    IsPart (read_outcome command.portfolio).text before after
-    ⊎ IsSomeAnd (script_file command.verb command.script) (λ script. IsPart (read_outcome script).text before after)
+-- where the text of the outcome isn't written whole: a part of it was written, or, where reading failed, of the line that names the file, which
+-- is the last that was asked for
+abbrev pub WritesPart : (List ℕ → Type 0) → Option CommandWords → Type 0 → Option (List (List ℕ)) → Option (List (List ℕ)) → Outcome → Type 0
+WritesPart IsPartOf command ReadingFailed before after wanted =
+    IsPartOf wanted.text ⊎ (ReadingFailed × IsSomeAnd command (λ c. NamesFile read_outcome c IsPartOf before after))

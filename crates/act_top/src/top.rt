@@ -7,7 +7,7 @@ ghost use Rattle.act_top.specs.Command.{command_of};
 ghost use Rattle.act_top.specs.Halts.{halt_outcome};
 ghost use Rattle.act_top.specs.Output.{EndsAs, outcome_of, read_outcome, status_of, words_outcome};
 ghost use Rattle.act_top.specs.Tasks.{task_outcome};
-ghost use Rattle.act_top.specs.Written.{IsPart, IsPartOfUnread, Writes};
+ghost use Rattle.act_top.specs.Written.{IsPart, IsProperPart, Writes, WritesPart};
 ghost use Rattle.act_top.specs.declared.top.Status.TheVariants.{NoMemory, ReadFault, Words, WriteFault};
 ghost use Rattle.act_top.specs.declared.writing.Stop.TheVariants.{Sink as SinkStop, Memory as MemoryStop};
 
@@ -36,7 +36,7 @@ pub enum Status {
     PortfolioRefused = 5,
     /// A script was refused.
     ScriptRefused = 6,
-    /// The sink failed; what was written is a part of the text or of the refusal line.
+    /// The sink failed; what was written is a part of the text or of the refusal line, and not all of it.
     WriteFault = 7,
     /// The whole text was written, and a block in it ends in `missing` or `overflow`.
     Unfinished = 8,
@@ -72,14 +72,20 @@ pub fn eval_top<F: Files, K: Sink, L: Ledger>(
         (F.asked files.old) (F.asked files.new) (K.written out.old) (K.written out.new) }
     ensures write_fault { result ≡ WriteFault → Rose (K.faults out.old) (K.faults out.new) }
 
-    // Where writing failed or memory ran out, what was written is a first part of the wanted text, or, where reading
-    // failed, of the line with the file's name.
-    ensures part { (result ≡ WriteFault) ⊎ (result ≡ NoMemory) →
-        IfSome (outcome_of (F.content files.old) (command_of (map string_bytes words.now))) (λ wanted.
-        IsPart wanted.text (K.written out.old) (K.written out.new)
-        ⊎ (Rose (F.faults files.old) (F.faults files.new)
-        × IsSomeAnd (command_of (map string_bytes words.now)) (λ command.
-        IsPartOfUnread command (K.written out.old) (K.written out.new)))) }
+    // Where writing failed, what was written is a part of the wanted text and not all of it, or, where reading failed, of
+    // the line that names the last file asked for.
+    ensures write_part { result ≡ WriteFault →
+        IfSome (outcome_of (F.content files.old) (command_of (map string_bytes words.now)))
+        (WritesPart (λ text. IsProperPart text (K.written out.old) (K.written out.new))
+        (command_of (map string_bytes words.now)) (Rose (F.faults files.old) (F.faults files.new))
+        (F.asked files.old) (F.asked files.new)) }
+
+    // The same where memory ran out, but it may be all of it.
+    ensures memory_part { result ≡ NoMemory →
+        IfSome (outcome_of (F.content files.old) (command_of (map string_bytes words.now)))
+        (WritesPart (λ text. IsPart text (K.written out.old) (K.written out.new))
+        (command_of (map string_bytes words.now)) (Rose (F.faults files.old) (F.faults files.new))
+        (F.asked files.old) (F.asked files.new)) }
 
     // Where neither reading nor writing failed, the wanted text is written whole, unless memory ran out.
     ensures complete { ¬ Rose (F.faults files.old) (F.faults files.new) → ¬ Rose (K.faults out.old) (K.faults out.new) →

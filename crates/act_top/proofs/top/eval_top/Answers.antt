@@ -1,5 +1,6 @@
 use Rattle.std.proofs.Common.{sym, ◌∙◌}
 use Rattle.act_top.specs.declared.task.Task.{Task}
+use Rattle.act_top.specs.declared.writing.Stop.TheVariants.{Sink as SinkStop, Memory}
 use Rattle.act_top.proofs.Outcomes.{command-asked, command-halt, command-stopped, command-task, ends-whole, not-unread-task, not-words-task, write-failed-task}
 use Rattle.act_top.proofs.Parts.{command-part-halt, command-part-task}
 use Rattle.act_top.proofs.top.eval_top.Goals as goal
@@ -24,9 +25,13 @@ returns-in-Ok-clause-asked g c =
 pub returns-in-Ok-clause-write_fault : goal.returns-in-Ok-clause-write_fault
 returns-in-Ok-clause-write_fault g c is = c.write_task.ensures.failed (write-failed-task c.in-Ok.task c.write_task.result c.write_task.ensures.status (sym c.status_of-in-Ok.ensures ∙ is))
 
-pub returns-in-Ok-clause-part : goal.returns-in-Ok-clause-part
-returns-in-Ok-clause-part g c cut =
-    command-part-task (g.F.Files.content c.args.files.now) c.in-Some.command _ c.in-Ok.task c.write_task.result _ _ _ _ (sym c.in-Some.is ∙ c.of.ensures) c.status_of-in-Ok.ensures c.in-Ok.ensures.task c.write_task.ensures.status c.write_task.ensures.text cut
+pub returns-in-Ok-clause-write_part : goal.returns-in-Ok-clause-write_part
+returns-in-Ok-clause-write_part g c stopped =
+    command-part-task SinkStop _ _ _ _ _ (g.F.Files.content c.args.files.now) c.in-Some.command _ c.in-Ok.task c.write_task.result _ (sym c.in-Some.is ∙ c.of.ensures) c.status_of-in-Ok.ensures c.in-Ok.ensures.task c.write_task.ensures.status c.write_task.ensures.text stopped
+
+pub returns-in-Ok-clause-memory_part : goal.returns-in-Ok-clause-memory_part
+returns-in-Ok-clause-memory_part g c stopped =
+    command-part-task Memory _ _ _ _ _ (g.F.Files.content c.args.files.now) c.in-Some.command _ c.in-Ok.task c.write_task.result _ (sym c.in-Some.is ∙ c.of.ensures) c.status_of-in-Ok.ensures c.in-Ok.ensures.task c.write_task.ensures.status c.write_task.ensures.text stopped
 
 pub returns-in-Ok-clause-complete : goal.returns-in-Ok-clause-complete
 returns-in-Ok-clause-complete g c = ends-whole _ _ _ _ _ _ (returns-in-Ok-clause-outcome g c) (returns-in-Ok-clause-read_fault g c) (returns-in-Ok-clause-write_fault g c)
@@ -39,6 +44,10 @@ pub returns-in-Err-clause-asked : goal.returns-in-Err-clause-asked
 returns-in-Err-clause-asked g c =
     command-stopped Task c.in-Some.command _ c.in-Err.halt c.write_halt.result _ _ _ _ _ (sym c.in-Some.is ∙ c.of.ensures) c.status_of-in-Err.ensures c.in-Err.ensures.asked c.write_halt.ensures.status c.write_halt.ensures.text c.write_halt.ensures.memory
 
-pub returns-in-Err-clause-part : goal.returns-in-Err-clause-part
-returns-in-Err-clause-part g c cut =
-    command-part-halt Task (g.F.Files.content c.args.files.now) c.in-Some.command _ c.in-Err.halt c.write_halt.result _ _ _ _ _ _ (sym c.in-Some.is ∙ c.of.ensures) c.status_of-in-Err.ensures c.in-Err.ensures.refused c.in-Err.ensures.failed c.in-Err.ensures.asked c.write_halt.ensures.status c.write_halt.ensures.text c.write_halt.ensures.memory cut
+pub returns-in-Err-clause-write_part : goal.returns-in-Err-clause-write_part
+returns-in-Err-clause-write_part g c stopped =
+    command-part-halt SinkStop _ _ _ _ _ Task (g.F.Files.content c.args.files.now) c.in-Some.command _ c.in-Err.halt c.write_halt.result _ (sym c.in-Some.is ∙ c.of.ensures) c.status_of-in-Err.ensures c.in-Err.ensures.refused c.in-Err.ensures.failed c.in-Err.ensures.asked c.write_halt.ensures.status c.write_halt.ensures.text c.write_halt.ensures.memory stopped
+
+pub returns-in-Err-clause-memory_part : goal.returns-in-Err-clause-memory_part
+returns-in-Err-clause-memory_part g c stopped =
+    command-part-halt Memory _ _ _ _ _ Task (g.F.Files.content c.args.files.now) c.in-Some.command _ c.in-Err.halt c.write_halt.result _ (sym c.in-Some.is ∙ c.of.ensures) c.status_of-in-Err.ensures c.in-Err.ensures.refused c.in-Err.ensures.failed c.in-Err.ensures.asked c.write_halt.ensures.status c.write_halt.ensures.text c.write_halt.ensures.memory stopped
