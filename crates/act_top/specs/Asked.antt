@@ -1,8 +1,8 @@
 -- Which files a command asks for. This profile's own.
-use Rattle.std.specs.Prelude.{◌≡◌, ◌⊎◌, ℕ, List, [], ◌∷◌, ◌++◌, take, Option, Some, None, IsSomeAnd, option_map}
+use Rattle.std.specs.Prelude.{◌≡◌, ◌⊎◌, ℕ, List, [], ◌∷◌, ◌++◌, take, Option, Some, None, IfErr, IfSome, IsSomeAnd, option_map}
 use Rattle.act_io.specs.Put.{written_after}
 use Rattle.act_top.specs.Command.{CommandWords, files_of, script_file}
-use Rattle.act_top.specs.Output.{Outcome, long_outcome, read_outcome}
+use Rattle.act_top.specs.Output.{Outcome, long_outcome, portfolio_read, read_outcome}
 use Rattle.act_top.specs.declared.top.Status.{Status}
 use Rattle.act_top.specs.declared.top.Status.TheVariants.{Done, Words, ReadFault, TooLong, PortfolioRefused, ScriptRefused, WriteFault, Unfinished, NoMemory}
 
@@ -19,6 +19,11 @@ abbrev pub NamesFile : (List ℕ → Outcome) → CommandWords → (List ℕ →
 NamesFile outcome command IsLine before after =
     (Asks (command.portfolio ∷ []) before after × IsLine (outcome command.portfolio).text)
     ⊎ IsSomeAnd (script_file command.verb command.script) (λ script. Asks (command.portfolio ∷ script ∷ []) before after × IsLine (outcome script).text)
+
+-- where the portfolio's bytes are told and refused, no script was asked for
+abbrev pub AsksNoScript : (List ℕ → Option (List ℕ)) → CommandWords → Option (List (List ℕ)) → Option (List (List ℕ)) → Type 0
+AsksNoScript content command before after =
+    IfSome (content command.portfolio) (λ bytes. IfErr (portfolio_read command.portfolio bytes) (λ _. Asks [] before after ⊎ Asks (command.portfolio ∷ []) before after))
 
 -- what a command asked for, by the status that it ended with: its files in the order of its words, up to the one that the line names where
 -- reading failed or a file is too long, and up to the portfolio where that is refused. Where writing failed either may be, and where memory

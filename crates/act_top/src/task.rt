@@ -1,6 +1,7 @@
 //! What a command is to write.
 ghost use Rattle.std.specs.Prelude.{◌≡◌, ◌≤◌, Some, IfErr, IfOk, IfSome, option_map};
 ghost use Rattle.act_io.specs.Faults.{Rose};
+ghost use Rattle.act_top.specs.Asked.{AsksNoScript};
 ghost use Rattle.act_top.specs.Halts.{AsksFiles, AsksScript, OnUnread, refusal_of};
 ghost use Rattle.act_top.specs.Output.{outcome_of, script_outcome, script_told};
 ghost use Rattle.act_top.specs.Ready.{AreAlone, evaluation_outcome};
@@ -35,6 +36,7 @@ pub(crate) fn task_of<F: Files>(
         IfSome (outcome_of (F.content files.old) (Some command.now)) (λ wanted. wanted ≡ outcome))) }
     ensures failed { OnUnread result (Rose (F.faults files.old) (F.faults files.new)) }
     ensures asked { AsksFiles command.now result (F.asked files.old) (F.asked files.new) }
+    ensures alone { AsksNoScript (F.content files.old) command.now (F.asked files.old) (F.asked files.new) }
 {
     let portfolio = read_portfolio(alloc, files, command.portfolio)?;
     match command.verb {

@@ -2,7 +2,7 @@
 ghost use Rattle.std.specs.Prelude.{◌≡◌, ◌⊎◌, if◌then◌else◌, None, Some, Err, IfOk, IfSome, IsSomeAnd, map, string_bytes};
 ghost use Rattle.act_io.specs.Faults.{Rose};
 ghost use Rattle.act_io.specs.Put.{written_after};
-ghost use Rattle.act_top.specs.Asked.{AsksFor};
+ghost use Rattle.act_top.specs.Asked.{AsksFor, AsksNoScript};
 ghost use Rattle.act_top.specs.Command.{command_of};
 ghost use Rattle.act_top.specs.Halts.{halt_outcome};
 ghost use Rattle.act_top.specs.Output.{EndsAs, outcome_of, read_outcome, status_of, words_outcome};
@@ -70,6 +70,11 @@ pub fn eval_top<F: Files, K: Sink, L: Ledger>(
         ⊎ IsSomeAnd command.script (λ script. K.written out.new ≡ written_after (K.written out.old) (read_outcome script).text)) }
     ensures asked { AsksFor (command_of (map string_bytes words.now)) result
         (F.asked files.old) (F.asked files.new) (K.written out.old) (K.written out.new) }
+
+    // Where the portfolio is refused, no script was asked for, whatever the status.
+    ensures alone { IfSome (command_of (map string_bytes words.now)) (λ command.
+        AsksNoScript (F.content files.old) command (F.asked files.old) (F.asked files.new)) }
+
     ensures write_fault { result ≡ WriteFault → Rose (K.faults out.old) (K.faults out.new) }
 
     // Where writing failed, what was written is a part of the wanted text and not all of it, or, where reading failed, of
