@@ -1,11 +1,10 @@
--- Texts that are written piece by piece, and counts of faults over several calls.
+-- Texts that are written piece by piece.
 use Rattle.std.proofs.Common.{◌≡◌, ℕ, ◌+◌, ◌<◌, ◌≤◌, zero, suc, List, [], ◌∷◌, ◌++◌, length, take, drop, get_or, drop-cons, add-one, Option, None, Some, Result, Ok, Err, refl, sym, ap, subst, ◌∙◌, arith, append_assoc, append-nil, length-append}
 use Rattle.std.specs.Result.{IsErrAnd}
 use Rattle.std.proofs.Math.Seq.{take-append-add}
 use Rattle.std.proofs.lemmas.List.{take-append-drop, take-append-le, length-take, drop_all}
-use Rattle.act_io.specs.Faults.{Rose}
 use Rattle.act_io.specs.Put.{written_after}
-use Rattle.act_top.specs.Written.{IsPart, IsPartAt, Writes}
+use Rattle.act_top.specs.Written.{IsPartAt, Writes}
 use Rattle.act_top.specs.declared.writing.Stop.{Stop}
 use Rattle.act_top.specs.declared.writing.Stop.TheVariants.{Sink as SinkStop, Memory}
 
@@ -21,9 +20,6 @@ drop-past xs i past = drop_all i xs past
 -- a function of a list from a place on
 pub from-next : {X Y : Type 0} (f : List X → Y) (xs : List X) (i : ℕ) (x : X) → i < length xs → x ≡ get_or xs i x → f (drop i xs) ≡ f (x ∷ drop (i + 1) xs)
 from-next f xs i x within is = ap f (drop-next xs i x within is)
-
-pub from-past : {X Y : Type 0} (f : List X → Y) (xs : List X) (i : ℕ) → length xs ≤ i → f (drop i xs) ≡ f []
-from-past f xs i past = ap f (drop-past xs i past)
 
 -- ---- what was written
 
@@ -54,10 +50,6 @@ pub written-piece : (before middle after : Option (List ℕ)) (m n : ℕ) (text 
     → after ≡ written_after before (take (m + n) text)
 written-piece before middle after m n text piece within rest first second =
     then-text before middle after (take m text) (take n (drop m text)) first (second ∙ ap (λ (p : List ℕ). written_after middle (take n p)) rest) ∙ ap (written_after before) (sym (take-both m n text within))
-
--- nothing is a part
-pub part-none : (text : List ℕ) (before : Option (List ℕ)) → IsPart text before before
-part-none text before = record { bytes = 0; put = sym (written-nothing before) }
 
 -- a part of a text is one of the text with more behind it
 pub cut : (n : ℕ) (a b : List ℕ) → (m : ℕ) × (take m (a ++ b) ≡ take n a)
@@ -135,9 +127,3 @@ left-part stop whole left piece rest before now next text here part =
 pub left-none : (whole left : List ℕ) (before now : Option (List ℕ)) → Left whole left before now → left ≡ [] → now ≡ written_after before whole
 left-none whole left before now text none =
     text.put ∙ ap (written_after before) (sym (text.split ∙ (ap (λ (t : List ℕ). text.done ++ t) none ∙ append-nil text.done)))
-
--- ---- counts of faults
-
--- a count that rose after it had not fallen
-pub rose-later : (a b c : ℕ) → a ≤ b → Rose b c → Rose a c
-rose-later a b c le rose = grind (arith, le, rose)
