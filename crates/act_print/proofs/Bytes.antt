@@ -1,5 +1,5 @@
 -- Texts as bytes and as lines.
-use Rattle.std.proofs.Common.{◌≡◌, ℕ, ◌-◌, ◌<◌, ◌==◌, Bool, true, false, not, cond, List, [], ◌∷◌, ◌++◌, length, take, refl, sym, ◌∙◌, ap, append_assoc, append-nil, length-append, arith}
+use Rattle.std.proofs.Common.{◌≡◌, ℕ, ◌+◌, ◌-◌, ◌<◌, ◌≤◌, ◌==◌, Bool, true, false, not, cond, List, [], ◌∷◌, ◌++◌, length, take, refl, sym, ◌∙◌, ap, append_assoc, append-nil, length-append, arith}
 use Rattle.std.specs.List.{AllByRecursion, flat_map, list_all}
 use Rattle.std.specs.Prelude.{codes}
 use Rattle.std.proofs.lemmas.Bool.{and_parts, eqb-true}
@@ -67,3 +67,20 @@ pub unlines_ended : (line : List ℕ) (lines : Lines) → is_ended (unlines (lin
 unlines_ended line lines =
     let last = feed_last line lines in
     (ends_is Decides-eqb (unlines (line ∷ lines)) (codes "\n") (is_ended (unlines (line ∷ lines))) refl).1 last.0 last.1
+
+-- ---- how many lines there are
+
+more_by : (byte count : ℕ) (lines : Lines) → length lines ≤ count → length (with_byte byte lines) ≤ count + 1
+more_by byte count [] few = omega arith
+more_by byte count (line ∷ lines) few = omega arith
+
+few_by : (byte count : ℕ) (lines : Lines) (feed : Bool) → length lines ≤ count → length (cond feed ([] ∷ lines) (with_byte byte lines)) ≤ count + 1
+few_by byte count lines true few = omega arith
+few_by byte count lines false few = more_by byte count lines few
+
+-- there are no more lines than bytes
+pub few_lines : (bytes : List ℕ) → length (lines_of bytes) ≤ length bytes
+few_lines [] = omega arith
+few_lines (byte ∷ bytes) =
+    let more = few_by byte (length bytes) (lines_of bytes) (byte == 10) (few_lines bytes) in
+    omega arith
