@@ -14,7 +14,7 @@ use Rattle.act_model.specs.declared.journal.Step.{Step}
 use Rattle.act_model.specs.declared.journal.Step.TheVariants.{Append, Ask}
 use Rattle.act_text.specs.Lines.{close_text, name_of}
 use Rattle.act_print.specs.Asks.{asks_of, caller_asks, contracts_of}
-use Rattle.act_print.specs.Conditions.{CanBeAsked, ContractsNamed, Due, IsBlock, IsItem, IsRow, IsStep, IsTranscript, due_for, due_of}
+use Rattle.act_print.specs.Conditions.{CanBeAsked, ContractsNamed, Due, IsBlock, IsItem, IsRow, IsStep, IsTranscript, due_to_ask, due_in_answer}
 use Rattle.act_print.specs.declared.printed.PrintedRow.{PrintedRow}
 use Rattle.act_print.specs.Faults.{lines_of}
 use Rattle.act_print.specs.Printed.{Block, Response, Transcript}
@@ -65,7 +65,7 @@ module _ (names : NameLists) where
   pub as_many : (t : Transcript) → IsTranscript names t → length t.answers ≡ length (asks_of t.items)
   as_many t is =
       let size = ap length is.due in
-      sym (length-map t.answers due_of) ∙ size ∙ length-map (asks_of t.items) (due_for names)
+      sym (length-map t.answers due_in_answer) ∙ size ∙ length-map (asks_of t.items) (due_to_ask names)
 
   pub text_is : (t : Transcript) → IsTranscript names t → text_of names t.items t.answers ≡ unlines (transcript_lines names t)
   unfolding text_of
@@ -175,7 +175,7 @@ module _ (names : NameLists) (named : ContractsNamed names) where
     version : due.version < 10 ^ 64
     contracts : AllByRecursion IsNamed due.contracts
 
-  due_plain : (ask : Asking) → IsFew ask → IsPlainDue (due_for names ask)
+  due_plain : (ask : Asking) → IsFew ask → IsPlainDue (due_to_ask names ask)
   due_plain ask few = record { caller = omega (arith, few.caller); number = omega (arith, few.number); version = omega (arith, few.version); contracts = asked_named ask.asked few.can }
 
   rows_plain : (rows : List PrintedRow) → AllByRecursion (IsRow names) rows → ArePlain (map (row_content names) rows)
@@ -185,7 +185,7 @@ module _ (names : NameLists) (named : ContractsNamed names) where
   block_plain block is =
       (block_head_plain names block.contract is.0, all_append (λ line. list_all is_plain line ≡ true) (map (row_content names) block.rows) (close_content names block.close ∷ []) (rows_plain block.rows is.1.rows) ((close_reads names).plain block.close is.1.close, tt))
 
-  answer_plain : (answer : Response) → IsPlainDue (due_of answer) × AllByRecursion (IsBlock names) answer.blocks → ArePlain (answer_lines names answer)
+  answer_plain : (answer : Response) → IsPlainDue (due_in_answer answer) × AllByRecursion (IsBlock names) answer.blocks → ArePlain (answer_lines names answer)
   answer_plain answer is =
       let contracts = all_mapped IsNamed (λ (b : Block). b.contract) answer.blocks is.0.contracts in (
         head_plain names answer.caller answer.number answer.version is.0.caller is.0.number is.0.version,
@@ -195,10 +195,10 @@ module _ (names : NameLists) (named : ContractsNamed names) where
   pub lines_plain : (t : Transcript) → IsTranscript names t → ArePlain (transcript_lines names t)
   lines_plain t is =
       let items = all_map (λ line. list_all is_plain line ≡ true) (IsItem names) (item_content names) (item_reads names).plain t.items is.items in
-      let due = all_map IsPlainDue IsFew (due_for names) due_plain (asks_of t.items) (asks_few t.items is.few is.items) in
-      let dues = all_mapped IsPlainDue due_of t.answers (subst (AllByRecursion IsPlainDue) (sym is.due) due) in
-      let answers = all_flat (λ line. list_all is_plain line ≡ true) (λ a. IsPlainDue (due_of a) × AllByRecursion (IsBlock names) a.blocks) (answer_lines names) answer_plain t.answers
-      (all_both (λ a. IsPlainDue (due_of a)) (λ a. AllByRecursion (IsBlock names) a.blocks) t.answers dues is.blocks) in
+      let due = all_map IsPlainDue IsFew (due_to_ask names) due_plain (asks_of t.items) (asks_few t.items is.few is.items) in
+      let dues = all_mapped IsPlainDue due_in_answer t.answers (subst (AllByRecursion IsPlainDue) (sym is.due) due) in
+      let answers = all_flat (λ line. list_all is_plain line ≡ true) (λ a. IsPlainDue (due_in_answer a) × AllByRecursion (IsBlock names) a.blocks) (answer_lines names) answer_plain t.answers
+      (all_both (λ a. IsPlainDue (due_in_answer a)) (λ a. AllByRecursion (IsBlock names) a.blocks) t.answers dues is.blocks) in
       all_append (λ line. list_all is_plain line ≡ true) (journal_lines names t.items) (replies_lines names t.items t.answers)
       (count_line_reads.plain (length t.items) is.few, items) (answers_head_plain names (length (asks_of t.items)) (asks_count t.items is.few), answers)
 

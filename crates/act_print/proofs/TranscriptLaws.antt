@@ -12,7 +12,7 @@ use Rattle.act_model.specs.declared.run.Close.{Close}
 use Rattle.act_model.specs.declared.run.Close.TheVariants.{End}
 use Rattle.act_text.specs.Lines.{name_of}
 use Rattle.act_print.specs.Asks.{asks_of, contracts_of}
-use Rattle.act_print.specs.Conditions.{Due, IsBlock, IsClose, IsItem, IsRow, IsTranscript, due_for, due_of}
+use Rattle.act_print.specs.Conditions.{Due, IsBlock, IsClose, IsItem, IsRow, IsTranscript, due_to_ask, due_in_answer}
 use Rattle.act_print.specs.LineWords.{close_of_line, count_of_line, item_of_line, row_of_line}
 use Rattle.act_print.specs.Printed.{Block, Response, Transcript}
 use Rattle.act_print.specs.Reading.{Lines, Reading, answer_at, answers_at, block_at, blocks_at, is_line, items_at, journal_at, line_by, replies_at, row_or_close, rows_at, transcript_at, with_row}
@@ -275,7 +275,7 @@ module _ (names : NameLists) where
   answer_lines answer = head_content answer.caller answer.number answer.version ∷ blocks_lines answer.blocks
 
   abbrev IsAnswerTo : Asking → Response → Type 0
-  IsAnswerTo ask answer = (due_of answer ≡ due_for names ask) × AllByRecursion (IsBlock names) answer.blocks
+  IsAnswerTo ask answer = (due_in_answer answer ≡ due_to_ask names ask) × AllByRecursion (IsBlock names) answer.blocks
 
   answer_reads : (ask : Asking) → Reads (answer_at names ask) answer_lines (IsAnswerTo ask)
   unfolding answer_at
@@ -284,11 +284,11 @@ module _ (names : NameLists) where
       (λ u blocks. record { caller = ask.caller; number = ask.number; version = ask.version; blocks = blocks }) answer_lines (IsAnswerTo ask)
       (λ answer is. (tt, answer.blocks, tt, (ap (λ (d : Due). d.contracts) is.0, is.1), same answer is.0))
       (λ u blocks any are. (ap (λ (cs : List ℕ). record { caller = ask.caller; number = ask.number; version = ask.version; contracts = cs }) are.0, are.1)) (λ u blocks any are. refl) where
-        same : (answer : Response) → due_of answer ≡ due_for names ask → record { caller = ask.caller; number = ask.number; version = ask.version; blocks = answer.blocks } ≡ answer
+        same : (answer : Response) → due_in_answer answer ≡ due_to_ask names ask → record { caller = ask.caller; number = ask.number; version = ask.version; blocks = answer.blocks } ≡ answer
         same answer e = ap (λ (d : Due). record { caller = d.caller; number = d.number; version = d.version; blocks = answer.blocks }) (sym e)
 
   abbrev AreAnswers : List Asking → List Response → Type 0
-  AreAnswers asks answers = (map due_of answers ≡ map (due_for names) asks) × AllByRecursion (λ answer. AllByRecursion (IsBlock names) answer.blocks) answers
+  AreAnswers asks answers = (map due_in_answer answers ≡ map (due_to_ask names) asks) × AllByRecursion (λ answer. AllByRecursion (IsBlock names) answer.blocks) answers
 
   abbrev pub answers_lines : List Response → Lines
   answers_lines answers = flat_map answer_lines answers
@@ -304,7 +304,7 @@ module _ (names : NameLists) where
     again = λ answers are rest. let none = no_answers answers are.0 in rw none refl;
     stops = λ lines left e. absurd (not_both ([], lines) left (sym e));
   } where
-    no_answers : (answers : List Response) → map due_of answers ≡ [] → answers ≡ []
+    no_answers : (answers : List Response) → map due_in_answer answers ≡ [] → answers ≡ []
     no_answers [] e = refl
     no_answers (answer ∷ answers) e = absurd (cc)
   answers_reads (ask ∷ asks) =
@@ -314,8 +314,8 @@ module _ (names : NameLists) where
         parts [] are = absurd (let h = are.0 in cc)
         parts (answer ∷ answers) are =
             let e = are.0 in
-            let first : due_of answer ≡ due_for names ask = cc in
-            let later : map due_of answers ≡ map (due_for names) asks = cc in
+            let first : due_in_answer answer ≡ due_to_ask names ask = cc in
+            let later : map due_in_answer answers ≡ map (due_to_ask names) asks = cc in
             (answer, answers, (first, are.1.0), (later, are.1.1), refl)
 
   -- ---- the answers to a journal

@@ -1,5 +1,5 @@
 -- Values put together in turn, as loops do.
-use Rattle.std.proofs.Common.{◌≡◌, ℕ, suc, ◌+◌, ◌-◌, ◌<◌, ◌≤◌, List, [], ◌∷◌, ◌++◌, length, drop, get_or, Result, Ok, Err, refl, sym, ◌∙◌, ap, add-one, append_assoc, append-nil, drop-cons, arith}
+use Rattle.std.proofs.Common.{◌≡◌, ℕ, suc, ◌+◌, ◌-◌, ◌<◌, ◌≤◌, List, [], ◌∷◌, ◌++◌, length, drop, get_or, Ok, Err, refl, sym, ◌∙◌, ap, add-one, append_assoc, append-nil, drop-cons, arith}
 use Rattle.std.specs.List.{flat_map, range_with_len}
 use Rattle.std.proofs.lemmas.List.{drop_all}
 use Rattle.act_model.specs.declared.run.Close.{Close}
@@ -8,7 +8,7 @@ use Rattle.act_print.specs.Reading.{◌>>=◌, Lines, Reading, answer_at, answer
 use Rattle.act_print.specs.declared.asks.Asking.{Asking}
 use Rattle.act_model.specs.Names.{NameLists}
 use Rattle.act_model.specs.declared.journal.Item.{Item}
-use Rattle.act_print.specs.Giving.{Fails, Gives, GivesItem}
+use Rattle.act_print.specs.Giving.{Fails, GivesItem}
 use Rattle.act_print.specs.LineWords.{item_of_line}
 use Rattle.act_print.specs.declared.printed.PrintedRow.{PrintedRow}
 use Rattle.act_print.specs.declared.stop.Stop.{Stop}
@@ -115,10 +115,3 @@ module _ (names : NameLists) (front : List Response) (asks : List Asking) (i : �
   pub answers_done : length asks ≤ i → total ≡ Ok (front, lines)
   unfolding answers_at
   answers_done past = let none : drop i asks ≡ [] = drop_all i asks past in all_read front lines total (rw none at so_far)
-
--- ---- a reading that ends with what another gives
-
-pub gives_whole : {X A : Type 0} (view : X → A) (r : Result X Stop) (left : Lines) (read : Reading A) → Gives view r left read → Gives view r left (read >>= λ y. Ok (y.0, y.1))
-gives_whole view (Ok x) left read e = ap (λ (q : Reading _). q >>= λ y. Ok (y.0, y.1)) e
-gives_whole view (Err Wrong) left read e = ap (λ (q : Reading _). q >>= λ y. Ok (y.0, y.1)) e
-gives_whole view (Err NoMemory) left read e = tt

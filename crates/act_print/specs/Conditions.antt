@@ -22,7 +22,8 @@ use Rattle.act_print.specs.Printed.{Block, Response, Transcript}
 use Rattle.act_print.specs.declared.asks.Asking.{Asking}
 use Rattle.act_print.specs.declared.printed.PrintedRow.{PrintedRow}
 
--- the number of a name, which is its place among those of its sort; no name stands there twice
+-- the number of a name, which is its place among those of its sort. Of the names of a portfolio and its scripts, none of which stands twice,
+-- these are all numbers below their count
 pub record IsNumberOf (names : List (List ℕ)) (number : ℕ) : Type 0 where
   pub name : is_name (name_of names number) ≡ true
   pub place : place_of (name_of names number) names ≡ Some number
@@ -70,7 +71,7 @@ pub record IsBlock (names : NameLists) (block : Block) : Type 0 where
   pub rows : AllByRecursion (IsRow names) block.rows
   pub close : IsClose names block.close
 
--- what a journal and the names fix of an answer
+-- what a journal and the names fix of an answer: all but rows and closes
 pub record Due : Type 0 where
   pub caller : ℕ
   pub number : ℕ
@@ -78,13 +79,13 @@ pub record Due : Type 0 where
   pub contracts : List ℕ
 
 -- what they fix of the answer to an ask
-abbrev pub due_for : NameLists → Asking → Due
-due_for names ask =
+abbrev pub due_to_ask : NameLists → Asking → Due
+due_to_ask names ask =
     record { caller = ask.caller; number = ask.number; version = ask.version; contracts = contracts_of names ask.asked }
 
 -- that part of an answer
-abbrev pub due_of : Response → Due
-due_of answer =
+abbrev pub due_in_answer : Response → Due
+due_in_answer answer =
     record { caller = answer.caller; number = answer.number; version = answer.version; contracts = map (λ block. block.contract) answer.blocks }
 
 -- a journal of fewer than 2^64 items with one answer for each ask, by caller and then by number, and in it a block for
@@ -92,7 +93,7 @@ due_of answer =
 pub record IsTranscript (names : NameLists) (printed : Transcript) : Type 0 where
   pub few : length printed.items < 2 ^ 64
   pub items : AllByRecursion (IsItem names) printed.items
-  pub due : map due_of printed.answers ≡ map (due_for names) (asks_of printed.items)
+  pub due : map due_in_answer printed.answers ≡ map (due_to_ask names) (asks_of printed.items)
   pub blocks : AllByRecursion (λ answer. AllByRecursion (IsBlock names) answer.blocks) printed.answers
 
 -- each contract has a name

@@ -4,4 +4,4 @@ mod EntryForms
 mod Members
 mod ScriptLines
 mod Soundness
-mod Weighing
+pub mod Weighing

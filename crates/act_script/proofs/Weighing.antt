@@ -1,43 +1,57 @@
--- The asks of a script, one line after another.
-use Rattle.std.proofs.Common.{◌≡◌, ℕ, ◌+◌, ◌<◌, nat_lt, Bool, true, false, if◌then◌else◌, List, ◌∷◌, ◌++◌, length, get_or, map, Option, Some, None, Vec, Global, refl, sym, ap, subst, ◌∙◌}
-use Rattle.std.proofs.lemmas.List.{length-map}
+-- Asks, one after the other.
+use Rattle.std.proofs.Common.{◌≡◌, ℕ, ◌+◌, ◌<◌, nat_lt, Bool, true, false, if◌then◌else◌, List, [], ◌∷◌, ◌++◌, find, length, get_or, map, slice_get, take, Option, Some, option_and_then, option_map, Vec, Global, refl, sym, ap, subst, ◌∙◌, append_assoc, length-append, arith}
+use Rattle.std.proofs.lemmas.List.{length-map, take_at}
+use Rattle.std.proofs.lemmas.List.Sums.{sum_by-append}
 use Rattle.std.proofs.Math.ListN.{get_or-map}
-use Rattle.std.specs.List.{All}
-use Rattle.act_model.specs.declared.journal.Asked.{Asked}
+use Rattle.std.specs.List.{All, range_with_len}
 use Rattle.act_model.specs.declared.journal.Line.{Line}
-use Rattle.act_model.specs.declared.journal.Step.TheVariants.{Append, Ask}
-use Rattle.act_model.specs.declared.observed.Obs.{Obs}
 use Rattle.act_script.specs.Asks.{AsksBelow, line_lists}
-use Rattle.act_script.specs.Weight.{Tariff, WeighedAsk, ask_weight, overweight, script_asks}
+use Rattle.act_script.specs.Spending.{overweight_behind}
+use Rattle.act_script.specs.Weight.{WeighedAsk, overweight, total_weight}
 
--- what has been spent with an ask, or none past the limit
-abbrev pub spent_with : ℕ → ℕ → Option ℕ
-spent_with spent weight = if nat_lt 4_194_304 (spent + weight) then None else Some (spent + weight)
+-- ---- the first ask past the limit
 
-module _ (tariff : Tariff) (number : ℕ) (line : Line) (lines : List Line) (others : List WeighedAsk) (spent : ℕ) where
-  -- the rest of the asks, with the line's own before it
-  abbrev from_here : ℕ → Option (ℕ × ℕ)
-  from_here before = overweight before (script_asks tariff number (line ∷ lines) ++ others)
+-- what stands behind a front
+behind : {X : Type 0} (front back : List X) (x : X) → slice_get (front ++ x ∷ back) (length front) ≡ Some x
+behind [] back x = refl
+behind (y ∷ front) back x = behind front back x
 
-  pub entry_passes : (entry : Obs) → line.step ≡ Append entry → from_here spent ≡ overweight spent (script_asks tariff number lines ++ others)
-  entry_passes entry e = rw e refl
+-- the script and the line of the ask at a place
+abbrev told : List WeighedAsk → Option ℕ → Option (ℕ × ℕ)
+told asks place = option_map (λ (ask : WeighedAsk). (ask.script, ask.line)) (option_and_then (slice_get asks) place)
 
-  by_limit : (past : Bool) (weight : ℕ) (sum : ℕ) → nat_lt 4_194_304 (spent + weight) ≡ past → Some sum ≡ (if past then None else Some (spent + weight))
-      → (if past then Some (number, line.line) else overweight (spent + weight) (script_asks tariff number lines ++ others)) ≡ overweight sum (script_asks tariff number lines ++ others)
-  by_limit true weight sum is e = absurd (cc)
-  by_limit false weight sum is e = let same : sum ≡ spent + weight = (cc) in rw same refl
+-- the asks up to that place weigh too much
+abbrev past : List WeighedAsk → ℕ → Bool
+past asks place = nat_lt 4_194_304 (total_weight (take (place + 1) asks))
 
-  pub ask_within : (asked : Asked) (sum : ℕ) → line.step ≡ Ask asked → Some sum ≡ spent_with spent (ask_weight tariff asked)
-      → from_here spent ≡ overweight sum (script_asks tariff number lines ++ others)
-  ask_within asked sum e is = rw e (by_limit (nat_lt 4_194_304 (spent + ask_weight tariff asked)) (ask_weight tariff asked) sum refl is)
+heavier : (front : List WeighedAsk) (ask : WeighedAsk) → total_weight (front ++ ask ∷ []) ≡ total_weight front + ask.weight
+heavier front ask = let more = sum_by-append (λ (a : WeighedAsk). a.weight) front (ask ∷ []) in omega (arith, more)
 
-  past_limit : (past : Bool) (weight : ℕ) → None ≡ (if past then None else Some (spent + weight))
-      → (if past then Some (number, line.line) else overweight (spent + weight) (script_asks tariff number lines ++ others)) ≡ Some (number, line.line)
-  past_limit true weight e = refl
-  past_limit false weight e = absurd (cc)
+up_to : (front back : List WeighedAsk) (ask : WeighedAsk) → total_weight (take (length front + 1) (front ++ ask ∷ back)) ≡ total_weight front + ask.weight
+up_to front back ask =
+    let regrouped : front ++ ask ∷ back ≡ (front ++ ask ∷ []) ++ back = sym (append_assoc front (ask ∷ []) back) in
+    let first : take (length front + 1) (front ++ ask ∷ back) ≡ front ++ ask ∷ [] = rw regrouped (take_at (front ++ ask ∷ []) back (length front + 1) (length-append front (ask ∷ []))) in
+    rw first (heavier front ask)
 
-  pub ask_past : (asked : Asked) → line.step ≡ Ask asked → None ≡ spent_with spent (ask_weight tariff asked) → from_here spent ≡ Some (number, line.line)
-  ask_past asked e is = rw e (past_limit (nat_lt 4_194_304 (spent + ask_weight tariff asked)) (ask_weight tariff asked) is)
+first_by : (front back : List WeighedAsk) (ask : WeighedAsk) (over : Bool) → nat_lt 4_194_304 (total_weight front + ask.weight) ≡ over
+    → told (front ++ ask ∷ back) (find (past (front ++ ask ∷ back)) (range_with_len (length front + 1) (length back))) ≡ overweight_behind (total_weight front + ask.weight) back
+    → told (front ++ ask ∷ back) (if over then Some (length front) else find (past (front ++ ask ∷ back)) (range_with_len (length front + 1) (length back)))
+    ≡ (if over then Some (ask.script, ask.line) else overweight_behind (total_weight front + ask.weight) back)
+first_by front back ask true is others = rw (behind front back ask) refl
+first_by front back ask false is others = others
+
+from_front : (front back : List WeighedAsk) → told (front ++ back) (find (past (front ++ back)) (range_with_len (length front) (length back))) ≡ overweight_behind (total_weight front) back
+from_front front [] = refl
+from_front front (ask ∷ back) =
+    let regrouped : front ++ ask ∷ back ≡ (front ++ ask ∷ []) ++ back = sym (append_assoc front (ask ∷ []) back) in
+    let longer : length (front ++ ask ∷ []) ≡ length front + 1 = length-append front (ask ∷ []) in
+    let others : told (front ++ ask ∷ back) (find (past (front ++ ask ∷ back)) (range_with_len (length front + 1) (length back))) ≡ overweight_behind (total_weight front + ask.weight) back =
+    rw (regrouped, sym longer, sym (heavier front ask)) (from_front (front ++ ask ∷ []) back) in
+    rw (up_to front back ask) (first_by front back ask (nat_lt 4_194_304 (total_weight front + ask.weight)) refl others)
+
+-- it is found ask by ask
+pub in_turn : (asks : List WeighedAsk) → overweight asks ≡ overweight_behind 0 asks
+in_turn asks = from_front [] asks
 
 -- the contracts of the script at a place
 pub asks_at : (count : ℕ) (scripts : List (Vec Line Global)) (script : Vec Line Global) (lines : List Line) (place : ℕ) → All (AsksBelow count) (line_lists scripts)

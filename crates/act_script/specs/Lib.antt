@@ -5,3 +5,4 @@ pub mod Reading
 pub mod Results
 pub mod Step
 pub mod Weight
+pub mod Spending

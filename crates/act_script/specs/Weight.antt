@@ -1,6 +1,6 @@
 -- What asks weigh. This profile's own.
-use Rattle.std.specs.Prelude.{ℕ, ◌+◌, ◌*◌, nat_lt, if◌then◌else◌, List, [], ◌∷◌, slice_index, Option, Some, None}
-use Rattle.std.specs.List.{enumerate_from, filter_map, flat_map}
+use Rattle.std.specs.Prelude.{ℕ, ◌+◌, ◌*◌, nat_lt, List, find, length, slice_get, slice_index, take, Option, Some, None, option_and_then, option_map}
+use Rattle.std.specs.List.{enumerate_from, filter_map, flat_map, range_with_len, sum_by}
 use Rattle.act_model.specs.declared.journal.Asked.{Asked}
 use Rattle.act_model.specs.declared.journal.Asked.TheVariants.{All, One}
 use Rattle.act_model.specs.declared.journal.Line.{Line}
@@ -39,7 +39,14 @@ script_asks tariff script lines = filter_map (λ line. weighed tariff script lin
 abbrev pub all_asks : Tariff → List (List Line) → List WeighedAsk
 all_asks tariff scripts = flat_map (λ script. script_asks tariff script.0 script.1) (enumerate_from 1 scripts)
 
--- the script and the line of the first ask up to which the asks weigh more than 4,194,304, where those before them weigh so much
-abbrev pub overweight : ℕ → List WeighedAsk → Option (ℕ × ℕ)
-overweight before [] = None
-overweight before (ask ∷ asks) = if nat_lt 4_194_304 (before + ask.weight) then Some (ask.script, ask.line) else overweight (before + ask.weight) asks
+-- what asks weigh together
+abbrev pub total_weight : List WeighedAsk → ℕ
+total_weight asks = sum_by (λ ask. ask.weight) asks
+
+-- the place of the first ask such that it and those before it weigh more than 4,194,304, where there is one
+abbrev pub overweight_place : List WeighedAsk → Option ℕ
+overweight_place asks = find (λ place. nat_lt 4_194_304 (total_weight (take (place + 1) asks))) (range_with_len 0 (length asks))
+
+-- its script and its line
+abbrev pub overweight : List WeighedAsk → Option (ℕ × ℕ)
+overweight asks = option_map (λ (ask : WeighedAsk). (ask.script, ask.line)) (option_and_then (slice_get asks) (overweight_place asks))

@@ -2,6 +2,7 @@
 ghost use Rattle.std.specs.Prelude.{◌≡◌, ◌+◌, ◌-◌, ◌^◌, ◌<◌, ◌≤◌, ◌++◌, nat_lt, if◌then◌else◌, true, min, length, List, Some, None, IfOk, IfErr};
 ghost use Rattle.std.specs.List.{All as Each};
 ghost use Rattle.act_script.specs.Asks.{AsksBelow, is_below, line_lists};
+ghost use Rattle.act_script.specs.Spending.{overweight_behind};
 ghost use Rattle.act_script.specs.Weight.{WeighedAsk, all_asks, ask_weight, overweight, script_asks};
 
 use act_model::{Asked, Line, Step};
@@ -41,7 +42,7 @@ impl<'a> Model for Tariff<'a> {
 pub fn weigh(weights: &[u64], all: All, events: u64, scripts: &[Vec<Line>]) -> Option<(u32, u32)>
     requires contracts { Each (AsksBelow (length weights.now)) (line_lists scripts.now) }
     requires numbered { length scripts.now < 2 ^ 32 }
-    ensures { result ≡ overweight 0 (all_asks
+    ensures { result ≡ overweight (all_asks
         (record { weights = weights.now; all_weight = all.weight; all_contracts = all.contracts; events = events })
         (line_lists scripts.now)) }
 {
@@ -66,9 +67,9 @@ impl Tariff<'_> {
     fn spend(&self, before: u64, number: u32, script: &[Line]) -> Result<u64, (u32, u32)>
         requires contracts { AsksBelow (length self.now.weights) script.now }
         ensures within { IfOk result (λ spent. (others : List WeighedAsk) →
-            overweight before (script_asks self.now number script.now ++ others) ≡ overweight spent others) }
+            overweight_behind before (script_asks self.now number script.now ++ others) ≡ overweight_behind spent others) }
         ensures past { IfErr result (λ place. (others : List WeighedAsk) →
-            overweight before (script_asks self.now number script.now ++ others) ≡ Some place) }
+            overweight_behind before (script_asks self.now number script.now ++ others) ≡ Some place) }
     {
         let mut spent = before;
         for line in script {

@@ -21,7 +21,9 @@ use Rattle.act_print.specs.Text.{answer_text, text_of}
 use Rattle.act_print.specs.declared.asks.Asking.{Asking}
 use Rattle.act_script.specs.Reading.{Script}
 use Rattle.act_script.specs.Step.{is_append}
-use Rattle.act_script.specs.Weight.{Tariff, ask_weight, overweight, script_asks}
+use Rattle.act_script.specs.Spending.{overweight_behind}
+use Rattle.act_script.specs.Weight.{Tariff, all_asks, ask_weight, script_asks}
+use Rattle.act_script.proofs.Weighing.{in_turn}
 use Rattle.act_print.proofs.AsksInTurn.{asks_from, asks_in_turn}
 use Rattle.act_top.specs.Output.{all_end, book_of, is_end, items_of, output_of, response_of, responses_of, tariff_of, too_much_asked}
 use Rattle.act_top.specs.Ready.{opening_text}
@@ -119,11 +121,11 @@ some-weight tariff All = omega arith
 some-weight tariff (One contract) = omega arith
 
 abbrev IsLight : Tariff → ℕ → List Line → Type 0
-IsLight tariff spent lines = overweight spent (script_asks tariff 1 lines ++ []) ≡ None
+IsLight tariff spent lines = overweight_behind spent (script_asks tariff 1 lines ++ []) ≡ None
 
 -- what is left once an ask was weighed
 light-past : (tariff : Tariff) (spent weight : ℕ) (line : Line) (lines : List Line) (test : Bool) → nat_lt 4_194_304 (spent + weight) ≡ test →
-    (if test then Some (1, line.line) else overweight (spent + weight) (script_asks tariff 1 lines ++ [])) ≡ None → (spent + weight ≤ 4_194_304) × IsLight tariff (spent + weight) lines
+    (if test then Some (1, line.line) else overweight_behind (spent + weight) (script_asks tariff 1 lines ++ [])) ≡ None → (spent + weight ≤ 4_194_304) × IsLight tariff (spent + weight) lines
 light-past tariff spent weight line lines true is light = absurd (cc)
 light-past tariff spent weight line lines false is light = (ltb-false 4_194_304 (spent + weight) is, light)
 
@@ -141,7 +143,9 @@ few-from tariff spent [] within light = omega arith
 few-from tariff spent (line ∷ lines) within light = few-by-step tariff spent line lines line.step refl within light (λ s. few-from tariff s lines)
 
 pub few-asks : (portfolio : Accepted) (lines : List Line) → too_much_asked portfolio lines ≡ None → count_by asks lines ≤ 4_194_304
-few-asks portfolio lines light = omega (arith, few-from (tariff_of portfolio lines) 0 lines (omega arith) light)
+few-asks portfolio lines light =
+    let tariff = tariff_of portfolio lines in
+    omega (arith, few-from tariff 0 lines (omega arith) (sym (in_turn (all_asks tariff (lines ∷ []))) ∙ light))
 
 -- there is an answer for each
 pub answer-count : (portfolio : Accepted) (names : NameLists) (lines : List Line) → length (responses_of portfolio names (items_of lines)) ≡ count_by asks lines
@@ -214,10 +218,7 @@ module _ (portfolio : Accepted) (names : NameLists) (book : List Obs) (lines : L
         IsPartAt stop (flat_map (answer_text names) (answers 1 0 lines)) before next
     answering-part stop asked next is part = left-part stop _ _ _ _ _ _ _ answering.text (ap (flat_map (answer_text names)) (answers-next asked is)) part
 
-    -- the numbers that come next are numbers of their types
-    pub number-fits : (asked : Asked) → line.step ≡ Ask asked → number ≤ 4_194_304
-    number-fits asked is = omega (arith, answering.numbers, asks-at-ask line left asked is)
-
+    -- the version that comes next is one of the book
     pub version-fits : (entry : Obs) → line.step ≡ Append entry → version + 1 ≤ length book
     version-fits entry is = omega (arith, answering.versions, appends-at-append line left entry is)
 

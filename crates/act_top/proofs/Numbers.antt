@@ -1,5 +1,5 @@
 -- Numbers that follow one another.
-use Rattle.std.proofs.Common.{◌≡◌, ℕ, ◌+◌, ◌-◌, ◌<◌, ◌≤◌, zero, suc, [], ◌∷◌, refl, arith}
+use Rattle.std.proofs.Common.{◌≡◌, ℕ, ◌+◌, ◌-◌, ◌<◌, suc, ◌∷◌, refl, arith}
 use Rattle.std.specs.List.{range_with_len}
 
 -- from a number on, as far as to an end
@@ -7,8 +7,3 @@ pub range-next : (c n : ℕ) → c < n → range_with_len c (n - c) ≡ c ∷ ra
 range-next c n below =
     let more : n - c ≡ suc (n - (c + 1)) = omega arith in
     rw more refl
-
-pub range-none : (c n : ℕ) → n ≤ c → range_with_len c (n - c) ≡ []
-range-none c n past =
-    let none : n - c ≡ zero = omega arith in
-    rw none refl

@@ -145,7 +145,7 @@ tariff_of portfolio lines =
 
 -- the first ask past the limit: its script and its line
 abbrev pub too_much_asked : Accepted → List Line → Option (ℕ × ℕ)
-too_much_asked portfolio lines = overweight 0 (all_asks (tariff_of portfolio lines) (lines ∷ []))
+too_much_asked portfolio lines = overweight (all_asks (tariff_of portfolio lines) (lines ∷ []))
 
 -- ---- answers
 
