@@ -1,7 +1,0 @@
-//! Worked rows as tests of texts that are read again.
-#![tactic(auto)]
-
-#[cfg(test)]
-mod examples;
-#[cfg(test)]
-mod reading;

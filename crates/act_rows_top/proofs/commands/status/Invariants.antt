@@ -1,4 +1,0 @@
-use Rattle.act_rows_top.proofs.commands.status.Given as goal
-
-abbrev pub ghosts-run : goal.ghosts-run
-ghosts-run g a = record { name = a.blank.name; parts = a.blank.parts }
