@@ -5,13 +5,10 @@ ghost use Rattle.act_book.specs.Entries.{AreEntries};
 ghost use Rattle.act_book.specs.declared.book.BookFault.TheVariants.{BookFull};
 
 use act_date::Day;
-use act_model::{Listed, Obs, Observed};
+use act_model::{Listed, MOST_ENTRIES, Obs, Observed};
 use act_num::{Fixed, NoMemory};
 use std::alloc::Global;
 use std::marker::Model;
-
-/// The most entries of a book.
-pub const MOST_ENTRIES: u64 = 1_048_576;
 
 /// Why an entry isn't added.
 #[derive(Clone, Copy, Debug, PartialEq, Eq)]
@@ -29,6 +26,7 @@ pub struct Book {
 }
 
 impl Model for Book {
+    ghost use Rattle.act_model.specs.Limits.{most_entries};
     ghost use Rattle.std.specs.Prelude.{◌≤◌, List, length};
     ghost use Rattle.act_model.specs.declared.observed.Obs.{Obs};
     ghost use Rattle.act_book.specs.Entries.{AreEntries};
@@ -37,7 +35,7 @@ impl Model for Book {
 
     ghost view = { λ b. b.entries.items };
 
-    ghost invariant = { λ b. AreEntries b.entries.items × (length b.entries.items ≤ 1_048_576) };
+    ghost invariant = { λ b. AreEntries b.entries.items × (length b.entries.items ≤ most_entries) };
 }
 
 impl Book {
@@ -82,9 +80,7 @@ impl Book {
         ensures { IfOk result (λ seen. seen ≡ take v self.now) }
     {
         let mut first = Vec::new(*self.entries.allocator());
-        let Ok(_) = first.extend_from_slice(&self.entries[..v as usize]) else {
-            return Err(NoMemory);
-        };
+        first.extend_from_slice(&self.entries[..v as usize])?;
         Ok(Snapshot {
             seen: Listed::new(first),
         })

@@ -3,4 +3,4 @@
 
 mod book;
 
-pub use book::{Book, BookFault, MOST_ENTRIES, Snapshot};
+pub use book::{Book, BookFault, Snapshot};

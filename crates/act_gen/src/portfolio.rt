@@ -16,7 +16,7 @@ pub fn portfolio_bytes(alloc: Global, n: u32) -> Result<Vec<u8>, NoMemory>
     ensures { IfOk result (λ bytes. bytes.items ≡ portfolio_text n) }
 {
     let mut text = Vec::new(alloc);
-    push_portfolio(&mut text, n).map_err(|_| NoMemory)?;
+    push_portfolio(&mut text, n)?;
     Ok(text)
 }
 

@@ -27,7 +27,7 @@ pub fn script_bytes(alloc: Global, n: u32) -> Result<Vec<u8>, NoMemory>
     ensures { IfOk result (λ bytes. bytes.items ≡ script_text n) }
 {
     let mut text = Vec::new(alloc);
-    push_script(&mut text, n).map_err(|_| NoMemory)?;
+    push_script(&mut text, n)?;
     Ok(text)
 }
 

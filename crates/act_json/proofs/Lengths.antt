@@ -15,7 +15,7 @@ use Rattle.serde_json.specs.Data as values
 use Rattle.serde_json.specs.Data.{Data}
 use Rattle.serde_json.specs.Events.{items_len}
 use Rattle.serde_json.specs.Find.{as_array}
-use Rattle.serde_json.specs.Read.{of_json, of_items, of_members, read}
+use Rattle.serde_json.specs.Read.{of_json, of_items, read}
 use Rattle.act_json.specs.Quoting.{starts_number, piece_len, pieces, quoted_piece, quoted}
 
 -- ---- quoting adds two bytes at most to each byte

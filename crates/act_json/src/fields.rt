@@ -19,10 +19,26 @@ pub fn text(alloc: Global, value: &Value, name: &str) -> Result<Option<String>, 
     ensures { result ≢ Err JsonFault.NoMemory
         → result_map (option_map string_bytes) result ≡ field_of name.now (view value.now) }
 {
-    let Some(text) = field(value, name)? else {
+    let Some(text) = text_in(value, name)? else {
         return Ok(None);
     };
     Ok(Some(owned(alloc, text)?))
+}
+
+/// The text of the field of that name, where it stands in the value; None and WrongShape as in [`text`]. It takes no memory.
+#[tactic(auto, unfolding(crate::specs::Fields::field_of))]
+pub fn text_in<'a>(value: &'a Value, name: &str) -> Result<Option<&'a str>, JsonFault>
+    ensures { result_map (option_map (λ text. text.now)) result ≡ field_of name.now (view value.now) }
+{
+    if !value.is_object() {
+        return Err(JsonFault::WrongShape);
+    }
+    match value.get(name) {
+        None | Some(Value::Null) => Ok(None),
+        Some(Value::String(text)) if text.is_empty() => Ok(None),
+        Some(Value::String(text)) => Ok(Some(text.as_str())),
+        Some(_) => Err(JsonFault::WrongShape),
+    }
 }
 
 /// The number of a field, from a decimal text. BadValue where the text has another form, or the number is out of
@@ -30,7 +46,7 @@ pub fn text(alloc: Global, value: &Value, name: &str) -> Result<Option<String>, 
 pub fn decimal(value: &Value, name: &str) -> Result<Option<Fixed>, JsonFault>
     ensures { result ≡ decimal_field name.now (view value.now) }
 {
-    let Some(text) = field(value, name)? else {
+    let Some(text) = text_in(value, name)? else {
         return Ok(None);
     };
     Fixed::parse(text.as_bytes())
@@ -42,7 +58,7 @@ pub fn decimal(value: &Value, name: &str) -> Result<Option<Fixed>, JsonFault>
 pub fn day(value: &Value, name: &str) -> Result<Option<Day>, JsonFault>
     ensures { result ≡ day_field name.now (view value.now) }
 {
-    let Some(text) = field(value, name)? else {
+    let Some(text) = text_in(value, name)? else {
         return Ok(None);
     };
     parse_day(text.as_bytes())
@@ -56,7 +72,7 @@ pub fn cycle(value: &Value, name: &str) -> Result<Option<Cycle>, JsonFault>
     ensures value { result ≡ cycle_field name.now (view value.now) }
     ensures leads_on { IfOk result (λ found. ForSome found (λ c. 1 ≤ c.count)) }
 {
-    let Some(text) = field(value, name)? else {
+    let Some(text) = text_in(value, name)? else {
         return Ok(None);
     };
     parse_cycle(text.as_bytes())
@@ -69,7 +85,7 @@ pub fn cycle(value: &Value, name: &str) -> Result<Option<Cycle>, JsonFault>
 pub fn period(value: &Value, name: &str) -> Result<Option<Cycle>, JsonFault>
     ensures { result ≡ period_field name.now (view value.now) }
 {
-    let Some(text) = field(value, name)? else {
+    let Some(text) = text_in(value, name)? else {
         return Ok(None);
     };
     parse_period(text.as_bytes())
@@ -82,7 +98,7 @@ pub fn word(alloc: Global, value: &Value, name: &str) -> Result<Option<String>, 
     ensures { result ≢ Err JsonFault.NoMemory
         → result_map (option_map string_bytes) result ≡ word_field name.now (view value.now) }
 {
-    let Some(text) = field(value, name)? else {
+    let Some(text) = text_in(value, name)? else {
         return Ok(None);
     };
     if !is_name(text) {
@@ -103,20 +119,4 @@ fn owned(alloc: Global, text: &str) -> Result<String, JsonFault>
     ensures { result ≢ Err JsonFault.NoMemory → result_map string_bytes result ≡ Ok text.now }
 {
     String::from_str(alloc, text).map_err(|_| JsonFault::NoMemory)
-}
-
-/// The text of a field, in the value.
-#[tactic(auto, unfolding(crate::specs::Fields::field_of))]
-fn field<'a>(value: &'a Value, name: &str) -> Result<Option<&'a str>, JsonFault>
-    ensures { result_map (option_map (λ text. text.now)) result ≡ field_of name.now (view value.now) }
-{
-    if !value.is_object() {
-        return Err(JsonFault::WrongShape);
-    }
-    match value.get(name) {
-        None | Some(Value::Null) => Ok(None),
-        Some(Value::String(text)) if text.is_empty() => Ok(None),
-        Some(Value::String(text)) => Ok(Some(text.as_str())),
-        Some(_) => Err(JsonFault::WrongShape),
-    }
 }

@@ -8,6 +8,6 @@ mod quoting;
 mod reading;
 
 pub use fault::JsonFault;
-pub use fields::{cycle, day, decimal, period, required, text, word};
+pub use fields::{cycle, day, decimal, period, required, text, text_in, word};
 pub use quoting::quote;
 pub use reading::read;

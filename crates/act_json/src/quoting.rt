@@ -12,13 +12,6 @@ use std::alloc::{AllocError, Global};
 pub fn quote(alloc: Global, bytes: &[u8]) -> Result<Vec<u8>, NoMemory>
     ensures { IfOk result (λ text. text.items ≡ quoted bytes.now) }
 {
-    quoted_text(alloc, bytes).map_err(|_| NoMemory)
-}
-
-/// The bytes with each bare number in quotes.
-fn quoted_text(alloc: Global, bytes: &[u8]) -> Result<Vec<u8>, AllocError>
-    ensures { IfOk result (λ text. text.items ≡ quoted bytes.now) }
-{
     let mut text = Vec::with_capacity(alloc, bytes.len() + bytes.len() / 8)?;
     let mut rest = bytes;
     'stretches: while !rest.is_empty() {

@@ -1,11 +1,12 @@
 -- The events of planned dates, date by date.
 use Rattle.std.proofs.Common.{◌≡◌, ℕ, ◌+◌, ◌<◌, ◌≤◌, List, [], ◌∷◌, ◌++◌, map, length, drop, get_or, Option, Some, None, option_map, option_and_then, refl, sym, ◌∙◌, ap, append_assoc, append-nil, arith, length-append}
-use Rattle.std.proofs.lemmas.List.{drop_all, drop_more}
+use Rattle.std.proofs.lemmas.List.{drop_all}
 use Rattle.std.specs.List.{enumerate_from}
 use Rattle.act_model.specs.declared.event.Event.{Event}
 use Rattle.act_model.specs.declared.terms.Common.{Common}
 use Rattle.act_profile.specs.Lists.{all_of}
 use Rattle.act_profile.specs.Planning.{Planned, planned_event, planned_events}
+use Rattle.act_model.proofs.Lists.{next_of}
 
 -- the events of dates whose first has this place
 abbrev pub events_from : Common → ℕ → List Planned → Option (List Event)
@@ -41,11 +42,11 @@ pub record HasAdded (common : Common) (dates : List Planned) (earlier events : L
 pub added_none : (common : Common) (dates : List Planned) (earlier : List Event) → HasAdded common dates earlier earlier 0
 added_none common dates earlier = record { is = refl; count = omega arith }
 
--- what comes next
-next_of : (common : Common) (dates : List Planned) (k : ℕ) (date : Planned) → k < length dates → date ≡ get_or dates k date →
+-- the event of the next date, and those behind it
+next_event : (common : Common) (dates : List Planned) (k : ℕ) (date : Planned) → k < length dates → date ≡ get_or dates k date →
     events_from common k (drop k dates) ≡ before_others (planned_event common (k, date)) (events_from common (k + 1) (drop (k + 1) dates))
-next_of common dates k date lt here =
-    ap (events_from common k) (drop_more dates k date lt ∙ ap (λ d. d ∷ drop (k + 1) dates) (sym here))
+next_event common dates k date lt here =
+    ap (events_from common k) (next_of dates k date lt here)
     ∙ events_from-cons common k date (drop (k + 1) dates)
 
 pub added_one : (common : Common) (dates : List Planned) (earlier events : List Event) (k : ℕ) (date : Planned) (event : Event) →
@@ -54,7 +55,7 @@ pub added_one : (common : Common) (dates : List Planned) (earlier events : List 
 added_one common dates earlier events k date event so_far lt here is =
     let others = events_from common (k + 1) (drop (k + 1) dates) in
     let next : events_from common k (drop k dates) ≡ before_others (Some event) others =
-    next_of common dates k date lt here ∙ ap (λ e. before_others e others) is in
+    next_event common dates k date lt here ∙ ap (λ e. before_others e others) is in
     record {
       is = so_far.is ∙ ap (behind events) next ∙ behind-before_others events event others;
       count = omega (arith, so_far.count, length-append events (event ∷ []));
@@ -70,7 +71,7 @@ pub added_undefined : (common : Common) (dates : List Planned) (earlier events :
     planned_event common (k, date) ≡ None → planned_events common dates ≡ None
 added_undefined common dates earlier events k date so_far lt here is =
     let others = events_from common (k + 1) (drop (k + 1) dates) in
-    let next : events_from common k (drop k dates) ≡ None = next_of common dates k date lt here ∙ ap (λ e. before_others e others) is in
+    let next : events_from common k (drop k dates) ≡ None = next_event common dates k date lt here ∙ ap (λ e. before_others e others) is in
     none_of_behind earlier (planned_events common dates) (so_far.is ∙ ap (behind events) next)
 
 pub added_all : (common : Common) (dates : List Planned) (earlier events : List Event) (k : ℕ) →

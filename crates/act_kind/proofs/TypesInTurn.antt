@@ -10,7 +10,8 @@ use Rattle.act_model.specs.declared.run.PlanFault.{PlanFault}
 use Rattle.act_model.specs.declared.run.PlanFault.TheVariants.{TooManyDates, DateRange, NoMemory}
 use Rattle.act_model.specs.declared.terms.Common.{Common}
 use Rattle.act_profile.specs.Outcomes.{map_ok, then_ok}
-use Rattle.act_profile.specs.Planning.{Planned, events_by_type, most_dates, type_events}
+use Rattle.act_profile.specs.Planning.{Planned, events_by_type, type_events}
+use Rattle.act_model.specs.Limits.{most_dates}
 
 -- ---- what the definition says of one type more
 

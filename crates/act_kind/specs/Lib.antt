@@ -1,2 +1,3 @@
 pub mod Payment
+pub mod Takes
 pub mod Types

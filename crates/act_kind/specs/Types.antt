@@ -3,7 +3,8 @@ use Rattle.std.specs.Prelude.{◌≡◌, ◌≢◌, ◌≤◌, ◌⊎◌, List, 
 use Rattle.std.specs.Global.{Vec}
 use Rattle.act_model.specs.declared.run.PlanFault.{PlanFault}
 use Rattle.act_model.specs.declared.run.PlanFault.TheVariants.{TooManyDates, DateRange, NoMemory}
-use Rattle.act_profile.specs.Planning.{Planned, most_dates}
+use Rattle.act_profile.specs.Planning.{Planned}
+use Rattle.act_model.specs.Limits.{most_dates}
 
 -- an answer of dates that may be undefined: the dates; that they are undefined; or that they are as many as a contract may have at most, or
 -- more. Want of memory says nothing

@@ -3,13 +3,14 @@
 #![tactic(auto)]
 
 mod dates;
-mod memory;
 mod order;
 mod planned;
 mod sign;
 mod table;
 
-pub use dates::{latest_until, recurring, recurring_before, recurring_or_end_after, united};
+pub use dates::{
+    recurrence, recurrence_or_end, recurring, recurring_before, recurring_or_end_after, united,
+};
 pub use order::{is_unpaid, order_law, put_in_order, retain_counting};
 pub use planned::{Planned, events_by_type, shifting, unshifted};
 pub use sign::{opposite, signed};

@@ -4,7 +4,7 @@ ghost use Rattle.std.specs.List.{AllPairs, filter, list_any};
 ghost use Rattle.std.specs.List.Sorted.{IsPermutation, IsStableBy};
 ghost use Rattle.std.specs.Ordering.{is_lt};
 ghost use Rattle.act_model.specs.declared.event.Event.{Event};
-ghost use Rattle.act_profile.specs.Contract.{exchange_of, purchase_of};
+ghost use Rattle.act_profile.specs.Contract.{purchase_of};
 ghost use Rattle.act_profile.specs.Order.{counting, counts, ends, ends_at_maturity, in_order, is_before_exchange, is_before_purchase, is_own, precedes, up_to_end};
 ghost use Rattle.act_profile.specs.Planning.{as_scheduled, event_on};
 ghost use Rattle.act_profile.specs.Steps.{is_unpaid};
@@ -117,7 +117,7 @@ fn count_to_end(kind: &Kind, events: &[Event]) -> usize
 fn counts(status: Day, kind: &Kind, day: Day) -> bool
     ensures { result ≡ counts status kind.now day }
 {
-    status < day && !is_before_exchange(status, exchange_of(kind), day)
+    status < day && !is_before_exchange(status, kind.initial_exchange_date(), day)
 }
 
 /// Whether a day comes before an initial exchange that is after the status date.
@@ -130,27 +130,13 @@ fn is_before_exchange(status: Day, exchange: Option<Day>, day: Day) -> bool
     }
 }
 
-/// The initial exchange of a loan or a plain swap.
-fn exchange_of(kind: &Kind) -> Option<Day>
-    ensures { result ≡ exchange_of kind.now }
-{
-    match kind {
-        Kind::PAM(pam) => Some(pam.loan.initial_exchange_date),
-        Kind::LAM(lam) => Some(lam.loan.initial_exchange_date),
-        Kind::NAM(nam) => Some(nam.loan.initial_exchange_date),
-        Kind::ANN(ann) => Some(ann.loan.initial_exchange_date),
-        Kind::SWPPV(swppv) => Some(swppv.initial_exchange_date),
-        _ => None,
-    }
-}
-
 /// Whether an event ends the contract: its termination, or the maturity of a loan or a plain swap.
 fn ends(kind: &Kind, event: &Event) -> bool
     ensures { result ≡ ends kind.now event.now }
 {
     is_own(event.source)
         && (event.kind == EventType::TD
-            || (event.kind == EventType::MD && exchange_of(kind).is_some()))
+            || (event.kind == EventType::MD && kind.initial_exchange_date().is_some()))
 }
 
 /// Whether an event is the contract's own, and no row of a child.

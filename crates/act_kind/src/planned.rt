@@ -5,16 +5,12 @@ ghost use Rattle.act_profile.specs.Outcomes.{map_ok};
 ghost use Rattle.act_profile.specs.Planning.{events_by_type, planned_event, planned_events, shifted_by, shifting, type_events, unshifted_where_given};
 ghost use Rattle.act_profile.specs.Planning as profile;
 
-use crate::memory::push;
 use act_calendar::{Shifted, shift};
 use act_date::Day;
-use act_model::{Common, Event, EventType, PlanFault, Source};
+use act_model::{Common, Event, EventType, MOST_DATES, PlanFault, Source};
 use act_num::Fixed;
 use std::alloc::{AllocError, Global};
 use std::marker::Model;
-
-/// The most scheduled events of a contract.
-const MOST_DATES: usize = 4_096;
 
 /// A date of an event before it is shifted.
 #[derive(Clone, Copy, Debug, PartialEq, Eq)]
@@ -42,10 +38,7 @@ pub fn shifting(alloc: Global, kind: EventType, dates: &[Day]) -> Result<Vec<Pla
     ensures answer { IsAnswer result (Some (shifting kind dates.now)) }
     ensures no_memory { IfErr result (λ fault. fault ≡ PlanFault.NoMemory) }
 {
-    match collect_shifting(alloc, kind, dates) {
-        Ok(planned) => Ok(planned),
-        Err(_) => Err(PlanFault::NoMemory),
-    }
+    Ok(collect_shifting(alloc, kind, dates)?)
 }
 
 /// Dates of one type of event that are shifted.
@@ -82,7 +75,7 @@ pub fn unshifted(
             date,
             shifts: false,
         };
-        push(&mut planned, date)?;
+        planned.push(date)?;
     }
     Ok(planned)
 }
@@ -113,12 +106,12 @@ pub fn events_by_type(
 
 /// Adds the events of one type's dates. After a fault some of them may have been added.
 fn add_events(common: &Common, dates: &[Planned], events: &mut Vec<Event>) -> Result<(), PlanFault>
-    requires { length events.old.items ≤ 4096 }
+    requires { length events.old.items ≤ MOST_DATES }
     ensures added { IfOk result (λ _.
         map_ok (λ later. events.old.items ++ later) (type_events common.now (length events.old.items) dates.now)
         ≡ Ok events.new.items) }
     ensures count { IfOk result (λ _. length events.new.items ≡ length events.old.items + length dates.now) }
-    ensures within { IfOk result (λ _. length events.new.items ≤ 4096) }
+    ensures within { IfOk result (λ _. length events.new.items ≤ MOST_DATES) }
     ensures fault { IfErr result (λ fault. fault ≢ PlanFault.NoMemory →
         type_events common.now (length events.old.items) dates.now ≡ Err fault) }
 {
@@ -130,7 +123,7 @@ fn add_events(common: &Common, dates: &[Planned], events: &mut Vec<Event>) -> Re
 
 /// Adds the events of dates, as many as a contract may have.
 fn push_events(common: &Common, dates: &[Planned], events: &mut Vec<Event>) -> Result<(), PlanFault>
-    requires { length dates.now ≤ 4096 }
+    requires { length dates.now ≤ MOST_DATES }
     ensures added { IfOk result (λ _.
         option_map (λ later. events.old.items ++ later) (planned_events common.now dates.now) ≡ Some events.new.items) }
     ensures count { IfOk result (λ _. length events.new.items ≡ length events.old.items + length dates.now) }
@@ -141,7 +134,7 @@ fn push_events(common: &Common, dates: &[Planned], events: &mut Vec<Event>) -> R
         let Some(event) = planned_event(common, place as u32, *date) else {
             return Err(PlanFault::DateRange);
         };
-        push(events, event)?;
+        events.push(event)?;
     }
     Ok(())
 }

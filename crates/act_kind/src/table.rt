@@ -1,13 +1,18 @@
 //! The step of an event, by the line that the table of its kind of contract has for it.
-ghost use Rattle.std.specs.Prelude.{◌≡◌, ◌+◌, Option, Ok, IfOk, IfErr, option_and_then};
+ghost use Rattle.std.specs.Prelude.{◌≡◌, List, Option, Ok, option_and_then};
 ghost use Rattle.act_kind.specs.Payment.{factor_code, payment_of, read_code};
+ghost use Rattle.act_kind.specs.Takes.{Takes};
 ghost use Rattle.act_model.specs.Observed.{observation};
+ghost use Rattle.act_model.specs.Run.{Stream};
 ghost use Rattle.act_model.specs.declared.event.Event.{Event};
 ghost use Rattle.act_model.specs.declared.state.State.{State};
+ghost use Rattle.act_profile.specs.Order.{is_own};
 ghost use Rattle.act_profile.specs.Step.{StepLine, amount_of, change_code, outcome, reading, settled, state_after, step_by, unpaid};
+ghost use Rattle.act_profile.specs.Steps.{accrual_by, factor_for, line_by, step_by_line};
 
+use crate::order::is_unpaid;
 use act_date::Day;
-use act_model::{Event, Observed, State, Stop};
+use act_model::{Event, Kind, Observed, Plan, Source, State, Stop, Terms};
 use act_num::{Fixed, Steps};
 use std::sync::ledger::Ledger;
 
@@ -51,9 +56,41 @@ pub trait Table {
         ensures { result ≡ state_after (line self.now event.now).change value state.now };
 }
 
-/// The step of an event: first its reads, the settlement factor before the others, and then what has accrued,
-/// what is paid and the state that is left. An event before a purchase pays nothing, and reads nothing for it.
+/// The step of an event of a contract, by its table: first its reads, the settlement factor before the others, and then
+/// what has accrued, what is paid and the state that is left. An event before a purchase pays nothing, and reads nothing
+/// for it. Where it is Ok it ticks once, and else not at all.
 pub fn take_step<T: Table, O: Observed, L: Ledger>(
+    terms: &Terms,
+    plan: &Plan,
+    table: &T,
+    state: &State,
+    event: &Event,
+    seen: &O,
+    steps: &mut Steps<L>,
+) -> Result<(Fixed, State), Stop>
+    ensures { (children : List Stream) →
+        T.line table.now event.now ≡ line_by terms.now.common terms.now.kind plan.now children event.now →
+        T.accrual table.now event.now ≡ accrual_by terms.now.common terms.now.kind event.now →
+        Takes result (step_by_line terms.now plan.now (O.entries seen.now) children state.now event.now) steps.old steps.new }
+{
+    let factor = factor_of(terms, event.source);
+    let is_unpaid = is_unpaid(terms, plan, event);
+    step_by(table, factor, is_unpaid, event, state, seen, steps)
+}
+
+/// The code of the settlement factor of an event. An outright has none, and a child's row neither.
+fn factor_of(terms: &Terms, source: Source) -> Option<u32>
+    ensures { result ≡ factor_for terms.now (is_own source) }
+{
+    match (&terms.kind, source) {
+        (Kind::FXOUT(_), _) => None,
+        (_, Source::Scheduled(_) | Source::Observed(_)) => terms.common.factor,
+        (_, Source::Leg { .. } | Source::Net { .. }) => None,
+    }
+}
+
+/// The step of an event by a settlement factor, and by whether it is unpaid.
+fn step_by<T: Table, O: Observed, L: Ledger>(
     table: &T,
     factor: Option<u32>,
     is_unpaid: bool,
@@ -62,9 +99,9 @@ pub fn take_step<T: Table, O: Observed, L: Ledger>(
     seen: &O,
     steps: &mut Steps<L>,
 ) -> Result<(Fixed, State), Stop>
-    ensures value { result ≡ step_by (O.entries seen.now) factor event.now (T.accrual table.now event.now) (unpaid is_unpaid (T.line table.now event.now)) state.now }
-    ensures ticked { IfOk result (λ _. steps.new ≡ steps.old + 1) }
-    ensures unticked { IfErr result (λ _. steps.new ≡ steps.old) }
+    ensures { Takes result
+        (step_by (O.entries seen.now) factor event.now (T.accrual table.now event.now) (unpaid is_unpaid (T.line table.now event.now)) state.now)
+        steps.old steps.new }
 {
     let payment = payment_or_nothing(table, is_unpaid, event);
     let factor = read(seen, event.day, payment.factor_code(factor))?;

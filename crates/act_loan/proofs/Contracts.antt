@@ -1,5 +1,5 @@
 -- A loan's plan, starting state and steps as those of a contract.
-use Rattle.std.proofs.Common.{◌≡◌, Bool, true, false, ℕ, ℤ, List, [], Option, Some, None, Result, Ok, Err, if◌then◌else◌, refl, sym, ap, ◌∙◌}
+use Rattle.std.proofs.Common.{◌≡◌, ℤ, List, [], Some, Result, Ok, Err, refl, sym, ap, ◌∙◌}
 use Rattle.std.proofs.lemmas.Option.{none-some, same_Some}
 use Rattle.std.specs.Option.{ok_or}
 use Rattle.std.specs.Result.{result_ok}
@@ -15,16 +15,13 @@ use Rattle.act_model.specs.declared.terms.Common.{Common}
 use Rattle.act_model.specs.declared.terms.Kind.{Kind}
 use Rattle.act_model.specs.declared.terms.Kind.TheVariants as kind
 use Rattle.act_model.specs.declared.terms.Terms.{Terms}
-use Rattle.act_profile.specs.Contract.{factor_of}
 use Rattle.act_profile.specs.Dates.{maturity_of_lam}
 use Rattle.act_profile.specs.Loan.{before_event, loan_line, loan_state}
 use Rattle.act_profile.specs.LoanPlan.{loan_plan, parts_between}
 use Rattle.act_profile.specs.LoanTerms.{LoanTerms, loan_terms_of}
-use Rattle.act_profile.specs.Order.{is_own}
 use Rattle.act_profile.specs.Outcomes.{map_ok, then_ok}
 use Rattle.act_profile.specs.Plan.{plan_by, plan_of}
-use Rattle.act_profile.specs.Step.{step_by, unpaid}
-use Rattle.act_profile.specs.Steps.{accrual_by, factor_for, guarantee_step_by, is_unpaid, line_by, loan_accrual_by, loan_line_by, loan_state_of, start_of, state_by, step_by_line, step_of}
+use Rattle.act_profile.specs.Steps.{accrual_by, guarantee_step_by, line_by, loan_accrual_by, loan_line_by, loan_state_of, start_of, state_by, step_by_line, step_of}
 use Rattle.act_loan.proofs.Plans.{periods_of_plan}
 
 -- ---- the plan
@@ -75,14 +72,6 @@ accrual_by_loan common (kind.NAM nam) event l is = ap (loan_accrual_by event) is
 accrual_by_loan common (kind.ANN ann) event l is = ap (loan_accrual_by event) is
 accrual_by_loan common other event l is = absurd (none-some l is)
 
-factor_by_loan : (common : Common) (contract : Kind) (l : LoanTerms) → loan_terms_of common contract ≡ Some l → factor_of common contract ≡ common.factor
-factor_by_loan common (kind.FXOUT fxout) l is = absurd (none-some l is)
-factor_by_loan common other l is = refl
-
-pub factor_of_loan : (terms : Terms) (l : LoanTerms) (own : Bool) → loan_terms_of terms.common terms.kind ≡ Some l → factor_for terms own ≡ (if own then terms.common.factor else None)
-factor_of_loan terms l true is = factor_by_loan terms.common terms.kind l is
-factor_of_loan terms l false is = refl
-
 no_guarantee : (type : EventType) (terms : Terms) (plan : EventPlan) (entries : List Obs) (children : List Stream) (s : State) (event : Event) (contract : Kind) (l : LoanTerms) → loan_terms_of terms.common contract ≡ Some l →
     guarantee_step_by type terms plan entries children s event contract ≡ step_by_line terms plan entries children s event
 no_guarantee XD terms plan entries children s event (kind.CEG ceg) l is = absurd (none-some l is)
@@ -91,16 +80,15 @@ no_guarantee XD terms plan entries children s event contract l is = refl
 no_guarantee type terms plan entries children s event contract l is = refl
 
 pub step_of_loan : (terms : Terms) (plan : EventPlan) (entries : List Obs) (s : State) (event : Event) (l : LoanTerms) → loan_terms_of terms.common terms.kind ≡ Some l →
-    step_of terms plan entries [] s event ≡ step_by entries (factor_for terms (is_own event.source)) event (before_event l event.kind event.calc) (unpaid (is_unpaid terms plan event) (loan_line l plan event)) s
+    step_by_line terms plan entries [] s event ≡ step_of terms plan entries [] s event
 unfolding step_of
-step_of_loan terms plan entries s event l is =
-    no_guarantee event.kind terms plan entries [] s event terms.kind l is
-    ∙ ap (λ accrue. step_by entries (factor_for terms (is_own event.source)) event accrue (unpaid (is_unpaid terms plan event) (line_by terms.common terms.kind plan [] event)) s) (accrual_by_loan terms.common terms.kind event l is)
-    ∙ ap (λ line. step_by entries (factor_for terms (is_own event.source)) event (before_event l event.kind event.calc) (unpaid (is_unpaid terms plan event) line) s) (line_by_loan terms.common terms.kind plan [] event l is)
+step_of_loan terms plan entries s event l is = sym (no_guarantee event.kind terms plan entries [] s event terms.kind l is)
 
--- the same by a loan's table
-pub step_by_table : (terms : Terms) (plan : EventPlan) (entries : List Obs) (s : State) (event : Event) (l : LoanTerms) (table : LoanTerms × EventPlan) (factor : Option ℕ) (is_before : Bool) →
-    loan_terms_of terms.common terms.kind ≡ Some l → table ≡ (l, plan) → factor ≡ factor_for terms (is_own event.source) → is_before ≡ is_unpaid terms plan event →
-    step_by entries factor event (λ state. before_event table.0 event.kind event.calc state) (unpaid is_before (loan_line table.0 table.1 event)) s ≡ step_of terms plan entries [] s event
-step_by_table terms plan entries s event l table factor is_before is parts code unpaid_is =
-    rw (parts, code, unpaid_is) (sym (step_of_loan terms plan entries s event l is))
+-- ---- a loan's table
+
+module _ (terms : Terms) (plan : EventPlan) (event : Event) (l : LoanTerms) (table : LoanTerms × EventPlan) (is : loan_terms_of terms.common terms.kind ≡ Some l) (parts : table ≡ (l, plan)) where
+  pub line_of_table : loan_line table.0 table.1 event ≡ line_by terms.common terms.kind plan [] event
+  line_of_table = rw parts (sym (line_by_loan terms.common terms.kind plan [] event l is))
+
+  pub accrual_of_table : (λ state. before_event table.0 event.kind event.calc state) ≡ accrual_by terms.common terms.kind event
+  accrual_of_table = rw parts (sym (accrual_by_loan terms.common terms.kind event l is))

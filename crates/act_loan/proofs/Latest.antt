@@ -1,12 +1,6 @@
 -- The latest of some dates.
-use Rattle.std.proofs.Common.{◌≡◌, ℕ, ◌+◌, ◌≤◌, ℤ, int_le, int_lt, List, [], ◌∷◌, ◌++◌, Bool, true, false, ◌&&◌, option_map, inl, inr, length, take, Option, Some, None, refl, sym, ap, ◌∙◌, arith, add-one}
-use Rattle.std.proofs.Math.Seq.{take-suc}
-use Rattle.std.proofs.lemmas.List.Elements.{filter-append}
-use Rattle.std.proofs.lemmas.List.Sums.{fold-append}
-use Rattle.std.proofs.lemmas.List.{take_all}
-use Rattle.std.proofs.lemmas.Option.{get_or_from_slice_get, slice_get_within}
+use Rattle.std.proofs.Common.{◌≡◌, ℤ, int_le, int_lt, List, [], ◌∷◌, ◌++◌, Bool, true, false, ◌&&◌, option_map, inl, inr, Option, Some, None, refl, sym, ap, ◌∙◌, arith}
 use Rattle.std.specs.Int.{int_max}
-use Rattle.std.specs.List.{filter, slice_get}
 use Rattle.act_profile.specs.Dates.{after, latest_until}
 use Rattle.std.proofs.lemmas.Bool.{cases_Bool}
 use Rattle.std.proofs.lemmas.Bool.Decides.{Decides-int_eq}
@@ -17,42 +11,11 @@ use Rattle.act_profile.specs.Dates.{united, without}
 use Rattle.act_profile.specs.Lists.{insert_once_by}
 use Rattle.act_profile.specs.LoanPlan.{redemption_dates, redemption_dates_by, with_redemptions_and_end}
 use Rattle.act_profile.specs.LoanTerms.{LoanTerms}
-use Rattle.act_loan.specs.Places.{all_redemption_dates, all_redemption_dates_by, latest_in}
-
-pub after_nil : (later_than : Option ℤ) → after later_than [] ≡ []
-after_nil None = refl
-after_nil (Some day) = refl
-
-pub latest_none : (until first : ℤ) (later_than : Option ℤ) → latest_in until later_than first [] ≡ first
-latest_none until first None = refl
-latest_none until first (Some day) = refl
-
-pub after_append : (later_than : Option ℤ) (xs ys : List ℤ) → after later_than (xs ++ ys) ≡ after later_than xs ++ after later_than ys
-after_append None xs ys = refl
-after_append (Some day) xs ys = filter-append (λ d. int_lt day d) xs ys
-
-pub latest_append : (until first : ℤ) (xs ys : List ℤ) → latest_until until first (xs ++ ys) ≡ latest_until until (latest_until until first xs) ys
-latest_append until first xs ys =
-    rw (filter-append (λ d. int_le d until) xs ys) (fold-append int_max first (filter (λ d. int_le d until) xs) (filter (λ d. int_le d until) ys))
-
-taken_more : (xs : List ℤ) (k : ℕ) (d : ℤ) → slice_get xs k ≡ Some d → take (k + 1) xs ≡ take k xs ++ d ∷ []
-taken_more xs k d is = rw (add-one, take-suc xs k d (slice_get_within xs k d is), get_or_from_slice_get xs k d d is) refl
-
--- one more date
-pub latest_more : (until first : ℤ) (later_than : Option ℤ) (xs : List ℤ) (k : ℕ) (d : ℤ) → slice_get xs k ≡ Some d →
-    latest_until until first (after later_than (take (k + 1) xs)) ≡ latest_until until (latest_until until first (after later_than (take k xs))) (after later_than (d ∷ []))
-latest_more until first later_than xs k d is =
-    rw (taken_more xs k d is, after_append later_than (take k xs) (d ∷ [])) (latest_append until first (after later_than (take k xs)) (after later_than (d ∷ [])))
-
--- all dates
-pub latest_all : (until first : ℤ) (later_than : Option ℤ) (xs : List ℤ) (k : ℕ) → length xs ≤ k →
-    latest_until until first (after later_than (take k xs)) ≡ latest_until until first (after later_than xs)
-latest_all until first later_than xs k le = rw (take_all k xs le) refl
+use Rattle.act_sched.proofs.SoFar.{latest_none, one_by_one}
+use Rattle.act_sched.specs.Schedule.{latest_in}
+use Rattle.act_loan.specs.RedemptionDates.{all_redemption_dates, all_redemption_dates_by}
 
 -- ---- one date after the other
-
-pub one_by_one : (until first : ℤ) (later_than : Option ℤ) (xs ys : List ℤ) → latest_in until later_than first (xs ++ ys) ≡ latest_in until later_than (latest_in until later_than first xs) ys
-one_by_one until first later_than xs ys = rw (after_append later_than xs ys) (latest_append until first (after later_than xs) (after later_than ys))
 
 -- the date counts
 counted : ℤ → Option ℤ → ℤ → Bool

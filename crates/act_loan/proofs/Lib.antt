@@ -1,5 +1,4 @@
 pub mod Redemptions
-pub mod ByPlace
 pub mod Latest
 pub mod Plans
 pub mod Types

@@ -1,5 +1,5 @@
 -- The plan of a loan, by its parts.
-use Rattle.std.proofs.Common.{◌≡◌, ℕ, suc, ◌+◌, ◌<◌, ◌≤◌, ◌==◌, true, false, ℤ, int_lt, List, [], ◌∷◌, ◌++◌, map, length, drop, get_or, Option, Some, None, Result, Ok, Err, option_map, inl, inr, refl, sym, ap, ◌∙◌, arith, append-nil, append_assoc}
+use Rattle.std.proofs.Common.{◌≡◌, ℕ, suc, ◌+◌, ◌<◌, ◌≤◌, ◌==◌, Bool, true, false, ℤ, int_lt, List, [], ◌∷◌, ◌++◌, map, length, drop, get_or, Option, Some, None, Result, Ok, Err, option_map, inl, inr, refl, sym, ap, ◌∙◌, arith, append-nil, append_assoc}
 use Rattle.std.proofs.Math.Seq.{drop-length}
 use Rattle.std.proofs.lemmas.Bool.{cases_Bool}
 use Rattle.std.proofs.lemmas.Bool.Decides.{nat_tests}
@@ -13,7 +13,7 @@ use Rattle.act_model.specs.declared.event.EventType.TheVariants.{RR, RRF}
 use Rattle.act_model.specs.declared.run.PlanFault.{PlanFault}
 use Rattle.act_model.specs.declared.run.PlanFault.TheVariants.{TooManyDates, DateRange, NoMemory}
 use Rattle.act_profile.specs.Loan.{days_after}
-use Rattle.act_profile.specs.LoanPlan.{loan_dates, loan_plan, parts_between, parts_from, resets_on, with_first_given, with_redemptions}
+use Rattle.act_profile.specs.LoanPlan.{calculation_days, loan_dates, loan_plan, parts_between, parts_from, resets_on, with_first_given, with_redemptions}
 use Rattle.act_profile.specs.LoanTerms.{LoanTerms, part_of_year}
 use Rattle.act_profile.specs.Order.{in_order}
 use Rattle.act_profile.specs.Outcomes.{map_ok}
@@ -34,6 +34,21 @@ pub no_more_parts : (l : LoanTerms) (previous : ℤ) (later : List ℤ) (i : ℕ
 no_more_parts l previous later i parts end =
     let none : parts_from l previous (drop i later) ≡ [] = unfold parts_from in rw (end, drop-length later) refl in
     ap (λ ps. parts ++ ps) none ∙ append-nil parts
+
+-- ---- the days that events go by
+
+-- an event that is wanted gives its day
+pub day_kept : (wanted : Event → Bool) (days : List ℤ) (events : List Event) (i : ℕ) (e : Event) → i < length events → wanted (get_or events i e) ≡ true →
+    (days ++ (get_or events i e).calc ∷ []) ++ calculation_days wanted (drop (i + 1) events) ≡ days ++ calculation_days wanted (drop i events)
+day_kept wanted days events i e lt is =
+    rw (drop_more events i e lt, is) (append_assoc days ((get_or events i e).calc ∷ []) (calculation_days wanted (drop (i + 1) events)))
+
+pub day_left_out : (wanted : Event → Bool) (days : List ℤ) (events : List Event) (i : ℕ) (e : Event) → i < length events → wanted (get_or events i e) ≡ false →
+    days ++ calculation_days wanted (drop (i + 1) events) ≡ days ++ calculation_days wanted (drop i events)
+day_left_out wanted days events i e lt is = rw (drop_more events i e lt, is) refl
+
+pub no_more_days : (wanted : Event → Bool) (days : List ℤ) (events : List Event) (i : ℕ) → i ≡ length events → days ++ calculation_days wanted (drop i events) ≡ days
+no_more_days wanted days events i end = rw (end, drop-length events) (append-nil days)
 
 -- ---- resets
 

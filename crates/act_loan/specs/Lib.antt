@@ -1,4 +1,3 @@
-pub mod Cycles
 pub mod Kinds
-pub mod Places
+pub mod RedemptionDates
 pub mod Resets

@@ -1,15 +1,17 @@
 //! The day from which the interest of a started loan has accrued. Finding it takes no memory.
 ghost use Rattle.std.specs.Prelude.{◌≡◌, [], ◌∷◌, ◌++◌, ◌≤◌, length, option_and_then, option_map, IfSome};
-ghost use Rattle.act_loan.specs.Cycles.{CyclesLeadOn, LeadsOn};
-ghost use Rattle.act_loan.specs.Places.{all_redemption_dates, dates_of, latest_in};
-ghost use Rattle.act_profile.specs.Dates.{anchor_of, dates_or_end, latest_until, recurring, recurring_before};
+ghost use Rattle.act_loan.specs.RedemptionDates.{all_redemption_dates};
+ghost use Rattle.act_profile.specs.Built.{CyclesLeadOn};
+ghost use Rattle.act_profile.specs.Dates.{latest_until, recurring, recurring_before};
 ghost use Rattle.act_profile.specs.Loan.{accrues_from};
 ghost use Rattle.act_profile.specs.LoanPlan.{capitalization_dates, interest_dates_until, interest_payment_dates, redemption_dates, with_redemption_dates};
+ghost use Rattle.act_sched.specs.Schedule.{LeadsOn, dates_of, latest_in};
 
-use crate::places::{Schedule, later_date};
 use crate::terms::LoanTerms;
-use act_date::{Cycle, Day, MonthRule, add_cycles};
+use act_date::Day;
+use act_kind::{recurrence, recurrence_or_end};
 use act_model::{ContractType, Redemption};
+use act_sched::Schedule;
 
 impl LoanTerms {
     /// The day from which a started loan's interest has accrued: the latest of the initial exchange and the interest
@@ -23,7 +25,6 @@ impl LoanTerms {
     }
 
     /// The latest of a first day and the dates of IP that aren't after the status date.
-    #[tactic(auto, using(crate::proofs::Latest::at_once))]
     fn latest_payment(&self, first: Day) -> Option<Day>
         requires { CyclesLeadOn self.now }
         ensures { result
@@ -37,19 +38,13 @@ impl LoanTerms {
 
     /// The latest of a first day and the dates up to T, but for the capitalized ones, that aren't after the status
     /// date.
-    #[tactic(auto, using(crate::proofs::Latest::with_redemptions))]
     fn latest_interest_date(&self, first: Day) -> Option<Day>
         requires { CyclesLeadOn self.now }
         ensures { result
             ≡ option_map (latest_in self.now.common.status_date self.now.loan.capitalization_end_date first)
             (option_and_then (with_redemption_dates self.now self.now.type) (interest_dates_until self.now self.now.maturity)) }
     {
-        let dates = self.interest_schedule(self.maturity)?;
-        let latest = dates.latest(
-            &self.loan.capitalization_end_date,
-            self.common.status_date,
-            first,
-        );
+        let latest = self.latest_paid(self.interest_schedule(self.maturity)?, first);
         match self.kind {
             ContractType::NAM | ContractType::ANN => self.latest_redemption_or_end(latest),
             _ => Some(latest),
@@ -66,17 +61,11 @@ impl LoanTerms {
             (redemption_dates self.now) }
     {
         let latest = self.latest_redemption(first)?;
-        Some(later_date(
-            latest,
-            &self.loan.capitalization_end_date,
-            self.common.status_date,
-            self.maturity,
-        ))
+        Some(self.latest_paid(Schedule::of_day(self.maturity), latest))
     }
 
     /// The latest of a first day and the dates of redemption, maybe with T, on which interest is paid, and that aren't
     /// after the status date.
-    #[tactic(auto, using(crate::proofs::Latest::latest_none))]
     fn latest_redemption(&self, first: Day) -> Option<Day>
         requires { CyclesLeadOn self.now }
         ensures { result
@@ -87,15 +76,21 @@ impl LoanTerms {
             return Some(first);
         };
         let dates = self.redemption_schedule(&redemption, self.maturity)?;
-        Some(dates.latest(
-            &self.loan.capitalization_end_date,
-            self.common.status_date,
-            first,
-        ))
+        Some(self.latest_paid(dates, first))
+    }
+
+    /// The latest of a first day and those dates of a schedule on which interest is paid, and that aren't after the
+    /// status date.
+    fn latest_paid(&self, dates: Schedule, first: Day) -> Day
+        requires { LeadsOn dates.cycle }
+        ensures { result
+            ≡ latest_in self.now.common.status_date self.now.loan.capitalization_end_date first (dates_of dates) }
+    {
+        let capitalized_until = self.loan.capitalization_end_date;
+        dates.latest(capitalized_until, self.common.status_date, first)
     }
 
     /// The latest of a first day and the dates of IPCI that aren't after the status date.
-    #[tactic(auto, using(crate::proofs::Latest::latest_none))]
     fn latest_capitalization(&self, first: Day) -> Option<Day>
         requires { CyclesLeadOn self.now }
         ensures { result
@@ -107,7 +102,7 @@ impl LoanTerms {
         ) {
             (Some(_), Some(end)) => {
                 let dates = self.interest_schedule(end)?;
-                Some(dates.latest(&None, self.common.status_date, first))
+                Some(dates.latest(None, self.common.status_date, first))
             }
             _ => Some(first),
         }
@@ -119,17 +114,13 @@ impl LoanTerms {
         ensures dates { option_map dates_of result ≡ interest_dates_until self.now end }
         ensures leads_on { IfSome result (λ schedule. LeadsOn schedule.cycle) }
     {
-        let anchor = first_date(
+        recurrence_or_end(
+            self.common.end_of_month_convention,
             self.loan.initial_exchange_date,
+            end,
             self.loan.cycle_anchor_date_of_interest_payment,
             self.loan.cycle_of_interest_payment,
-        )?;
-        Some(dates_or_end(
-            anchor,
-            self.loan.cycle_of_interest_payment,
-            end,
-            self.common.end_of_month_convention,
-        ))
+        )
     }
 
     /// How many dates of redemption there are before a day.
@@ -151,51 +142,12 @@ impl LoanTerms {
         ensures leads_on { IfSome result (λ schedule. LeadsOn schedule.cycle) }
         ensures end { IfSome result (λ schedule. schedule.end ≡ end) }
     {
-        let anchor = first_date(
+        recurrence(
+            self.common.end_of_month_convention,
             self.loan.initial_exchange_date,
+            end,
             redemption.cycle_anchor_date_of_principal_redemption,
             redemption.cycle_of_principal_redemption,
-        )?;
-        Some(Schedule {
-            anchor,
-            cycle: redemption.cycle_of_principal_redemption,
-            end,
-            rule: self.common.end_of_month_convention,
-        })
-    }
-}
-
-/// The dates of an anchor and a cycle up to a day, or that day alone without an anchor.
-#[tactic(auto, using(crate::proofs::ByPlace::end_alone))]
-fn dates_or_end(anchor: Option<Day>, cycle: Option<Cycle>, end: Day, rule: MonthRule) -> Schedule
-    requires { LeadsOn cycle }
-    ensures dates { dates_of result ≡ dates_or_end rule end cycle anchor }
-    ensures leads_on { LeadsOn result.cycle }
-{
-    match anchor {
-        Some(_) => Schedule {
-            anchor,
-            cycle,
-            end,
-            rule,
-        },
-        None => Schedule {
-            anchor: Some(end),
-            cycle: None,
-            end,
-            rule,
-        },
-    }
-}
-
-/// The anchor of a cycle: the given one, or else one cycle after the initial exchange. None where that is past 2299,
-/// and in it none where neither is given.
-fn first_date(exchange: Day, anchor: Option<Day>, cycle: Option<Cycle>) -> Option<Option<Day>>
-    ensures { result ≡ anchor_of exchange anchor cycle }
-{
-    match (anchor, cycle) {
-        (Some(anchor), _) => Some(Some(anchor)),
-        (None, Some(cycle)) => Some(Some(add_cycles(exchange, cycle, 1)?)),
-        (None, None) => Some(None),
+        )
     }
 }

@@ -10,7 +10,6 @@ mod fees;
 mod interest;
 mod pam;
 mod penalty;
-mod places;
 mod planning;
 mod redemption;
 mod reset;

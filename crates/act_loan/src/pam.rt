@@ -1,8 +1,9 @@
 //! PAM: a loan whose notional is paid back at maturity.
-ghost use Rattle.std.specs.Prelude.{◌≡◌, ◌≢◌, ◌+◌, [], IfOk, IfErr, None, Some, Ok, Err};
+ghost use Rattle.std.specs.Prelude.{◌≡◌, ◌≢◌, [], IfOk, None, Some, Ok, Err};
+ghost use Rattle.act_kind.specs.Takes.{Takes};
 ghost use Rattle.act_kind.specs.Types.{AreTypes, IsAnswer};
-ghost use Rattle.act_loan.specs.Cycles.{CyclesLeadOn, HasCycles};
-ghost use Rattle.act_profile.specs.Contract.{type_of};
+ghost use Rattle.act_profile.specs.Built.{CyclesLeadOn, IsBuilt};
+ghost use Rattle.act_model.specs.Kind.{type_of};
 ghost use Rattle.act_profile.specs.LoanPlan.{loan_dates};
 ghost use Rattle.act_profile.specs.LoanTerms.{loan_terms_of};
 ghost use Rattle.act_profile.specs.Plan.{plan_of};
@@ -20,7 +21,7 @@ use std::sync::ledger::Ledger;
 /// 1900 to 2299, and of both the one whose type of event comes first.
 pub fn schedule(alloc: Global, terms: &Terms) -> Result<Plan, PlanFault>
     requires kind { type_of terms.now.kind ≡ ContractType.PAM }
-    requires cycles { HasCycles terms.now }
+    requires built { IsBuilt terms.now.kind }
     ensures { result ≢ Err PlanFault.NoMemory → result ≡ plan_of terms.now }
 {
     let loan = loan_terms(terms);
@@ -34,7 +35,7 @@ pub fn schedule(alloc: Global, terms: &Terms) -> Result<Plan, PlanFault>
 /// It takes no memory.
 pub fn start(terms: &Terms, plan: &Plan) -> Result<State, Stop>
     requires kind { type_of terms.now.kind ≡ ContractType.PAM }
-    requires cycles { HasCycles terms.now }
+    requires built { IsBuilt terms.now.kind }
     requires plan { plan_of terms.now ≡ Ok plan.now }
     ensures { result ≡ start_of terms.now plan.now }
 {
@@ -53,9 +54,7 @@ pub fn step<O: Observed, L: Ledger>(
 ) -> Result<(Fixed, State), Stop>
     requires kind { type_of terms.now.kind ≡ ContractType.PAM }
     requires plan { plan_of terms.now ≡ Ok plan.now }
-    ensures value { result ≡ step_of terms.now plan.now (O.entries seen.now) [] state.now event.now }
-    ensures ticked { IfOk result (λ _. steps.new ≡ steps.old + 1) }
-    ensures unticked { IfErr result (λ _. steps.new ≡ steps.old) }
+    ensures { Takes result (step_of terms.now plan.now (O.entries seen.now) [] state.now event.now) steps.old steps.new }
 {
     step_loan(terms, loan_terms(terms), plan, state, event, seen, steps)
 }
@@ -66,6 +65,7 @@ fn loan_terms(terms: &Terms) -> LoanTerms
     ensures loan { loan_terms_of terms.now.common terms.now.kind ≡ Some result }
     ensures kind { result.type ≡ ContractType.PAM }
     ensures redemption { result.redemption ≡ None }
+    ensures cycles { IsBuilt terms.now.kind → CyclesLeadOn result }
 {
     match &terms.kind {
         Kind::PAM(pam) => LoanTerms::of_pam(terms.common, *pam),

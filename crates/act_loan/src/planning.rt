@@ -2,12 +2,12 @@
 ghost use Rattle.std.specs.Prelude.{◌≡◌, ◌≢◌, [], ◌∷◌, ◌++◌, ◌==◌, map, Ok, Err, Some, option_map, IfOk, IfErr, IsTrue};
 ghost use Rattle.std.specs.List.{enumerate_from};
 ghost use Rattle.act_kind.specs.Types.{AreTypes, IsAnswer};
-ghost use Rattle.act_loan.specs.Cycles.{CyclesLeadOn};
+ghost use Rattle.act_profile.specs.Built.{CyclesLeadOn};
 ghost use Rattle.act_loan.specs.Kinds.{pays_interest_alone};
 ghost use Rattle.act_loan.specs.Resets.{reset_on};
 ghost use Rattle.act_profile.specs.Dates.{after};
-ghost use Rattle.act_profile.specs.LoanPlan.{annuity_days, capitalization_dates, fee_dates, interest_dates_until, interest_payment_dates, loan_dates, loan_plan, parts_between, parts_from, reset_dates, resets_on, scaling_dates, with_first_given, with_redemptions};
-ghost use Rattle.act_profile.specs.Order.{in_order};
+ghost use Rattle.act_profile.specs.LoanPlan.{annuity_days, calculation_days, capitalization_dates, fee_dates, interest_dates_until, interest_payment_dates, loan_dates, loan_plan, parts_between, parts_from, reset_dates, resets_on, scaling_dates, with_first_given, with_redemptions};
+ghost use Rattle.act_profile.specs.Order.{in_order, is_type};
 ghost use Rattle.act_profile.specs.Planning.{shifting, unshifted, unshifted_where_given};
 
 use crate::annuity::place_after;
@@ -68,10 +68,7 @@ impl LoanTerms {
         if self.kind != ContractType::ANN {
             return Ok(Vec::new(alloc));
         }
-        match redemption_days_and_end(alloc, events) {
-            Ok(days) => Ok(days),
-            Err(_) => Err(PlanFault::NoMemory),
-        }
+        Ok(redemption_days_and_end(alloc, events)?)
     }
 
     /// The parts of a year between successive days.
@@ -86,7 +83,6 @@ impl LoanTerms {
     }
 
     /// The parts of a year from a day to the first of some days, and between these.
-    #[tactic(auto, using(crate::proofs::Plans::next_part, crate::proofs::Plans::no_more_parts))]
     fn parts_from(&self, alloc: Global, first: Day, later: &[Day]) -> Result<Vec<Frac>, PlanFault>
         ensures parts { IfOk result (λ parts. parts.items ≡ parts_from self.now first later.now) }
         ensures no_memory { IfErr result (λ fault. fault ≡ PlanFault.NoMemory) }
@@ -94,7 +90,7 @@ impl LoanTerms {
         let mut parts = Vec::new(alloc);
         let mut previous = first;
         'days: for day in later {
-            push_part(&mut parts, self.part_of_year(previous, *day))?;
+            parts.push(self.part_of_year(previous, *day))?;
             previous = *day;
         }
         Ok(parts)
@@ -268,10 +264,7 @@ fn with_first_given(
     ensures { IsAnswer result (Some (with_first_given status_date dates.now)) }
 {
     let given = place_after(dates, status_date);
-    match with_given(alloc, dates, given) {
-        Ok(resets) => Ok(resets),
-        Err(_) => Err(PlanFault::NoMemory),
-    }
+    Ok(with_given(alloc, dates, given)?)
 }
 
 /// Resets of which the one at a place is to the given rate.
@@ -304,15 +297,22 @@ fn reset_on(is_given: bool, date: Day) -> Planned
 fn redemption_days_and_end(alloc: Global, events: &[Event]) -> Result<Vec<Day>, AllocError>
     ensures { IfOk result (λ days. days.items ≡ annuity_days ContractType.ANN events.now) }
 {
-    let redemptions = events
-        .iter()
-        .filter(|event| event.kind == EventType::PR)
-        .map(|event| event.calc);
-    let end = events
-        .iter()
-        .filter(|event| event.kind == EventType::MD)
-        .map(|event| event.calc);
-    redemptions.chain(end).collect(alloc)
+    let mut days = Vec::new(alloc);
+    push_days(&mut days, events, EventType::PR)?;
+    push_days(&mut days, events, EventType::MD)?;
+    Ok(days)
+}
+
+/// Adds the days that the events of a type go by at the end.
+fn push_days(days: &mut Vec<Day>, events: &[Event], kind: EventType) -> Result<(), AllocError>
+    ensures { IfOk result (λ _. days.new.items ≡ days.old.items ++ calculation_days (λ e. is_type e.kind kind) events.now) }
+{
+    for event in events {
+        if event.kind == kind {
+            days.push(event.calc)?;
+        }
+    }
+    Ok(())
 }
 
 /// The events in order.
@@ -320,19 +320,6 @@ fn in_order(mut events: Vec<Event>) -> Result<Vec<Event>, PlanFault>
     ensures in_order { IfOk result (λ sorted. sorted.items ≡ in_order events.items) }
     ensures no_memory { IfErr result (λ fault. fault ≡ PlanFault.NoMemory) }
 {
-    match put_in_order(&mut events) {
-        Ok(()) => Ok(events),
-        Err(_) => Err(PlanFault::NoMemory),
-    }
-}
-
-/// Adds a part of a year at the end.
-fn push_part(parts: &mut Vec<Frac>, part: Frac) -> Result<(), PlanFault>
-    ensures pushed { IfOk result (λ _. parts.new.items ≡ parts.old.items ++ part ∷ []) }
-    ensures no_memory { IfErr result (λ fault. fault ≡ PlanFault.NoMemory) }
-{
-    match parts.push(part) {
-        Ok(()) => Ok(()),
-        Err(_) => Err(PlanFault::NoMemory),
-    }
+    put_in_order(&mut events)?;
+    Ok(events)
 }

@@ -1,6 +1,6 @@
 //! The state that a loan begins with.
 ghost use Rattle.std.specs.Prelude.{◌≡◌, ◌<◌, ◌≤◌, length, option_map, IfSome};
-ghost use Rattle.act_loan.specs.Cycles.{CyclesLeadOn};
+ghost use Rattle.act_profile.specs.Built.{CyclesLeadOn};
 ghost use Rattle.act_num.specs.Number.{rnd};
 ghost use Rattle.act_profile.specs.Loan.{initial_redemption_payment, is_started, loan_state, started_redemption_payment, started_state};
 ghost use Rattle.act_profile.specs.LoanPlan.{parts_between, redemption_dates};

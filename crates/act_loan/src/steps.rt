@@ -1,16 +1,16 @@
 //! The start and the steps of a loan, whatever its kind.
-ghost use Rattle.std.specs.Prelude.{◌≡◌, ◌+◌, [], IfOk, IfErr, IsSome, Some, Ok};
-ghost use Rattle.act_loan.specs.Cycles.{CyclesLeadOn};
+ghost use Rattle.std.specs.Prelude.{◌≡◌, [], Some, Ok};
+ghost use Rattle.act_kind.specs.Takes.{Takes};
+ghost use Rattle.act_profile.specs.Built.{CyclesLeadOn};
 ghost use Rattle.act_profile.specs.LoanPlan.{loan_plan};
 ghost use Rattle.act_profile.specs.LoanTerms.{loan_terms_of};
 ghost use Rattle.act_profile.specs.Plan.{plan_of};
-ghost use Rattle.act_profile.specs.Order.{is_own};
-ghost use Rattle.act_profile.specs.Steps.{factor_for, start_of, step_of};
+ghost use Rattle.act_profile.specs.Steps.{start_of, step_of};
 
 use crate::table::LoanTable;
 use crate::terms::LoanTerms;
-use act_kind::{is_unpaid, take_step};
-use act_model::{Event, EventType, Observed, Plan, Source, State, Stop, Terms};
+use act_kind::take_step;
+use act_model::{Event, EventType, Observed, Plan, State, Stop, Terms};
 use act_num::{Fixed, Steps};
 use std::sync::ledger::Ledger;
 
@@ -46,24 +46,8 @@ pub fn step_loan<O: Observed, L: Ledger>(
 ) -> Result<(Fixed, State), Stop>
     requires loan { loan_terms_of terms.now.common terms.now.kind ≡ Some loan }
     requires plan { plan_of terms.now ≡ Ok plan.now }
-    ensures value { result ≡ step_of terms.now plan.now (O.entries seen.now) [] state.now event.now }
-    ensures ticked { IfOk result (λ _. steps.new ≡ steps.old + 1) }
-    ensures unticked { IfErr result (λ _. steps.new ≡ steps.old) }
+    ensures { Takes result (step_of terms.now plan.now (O.entries seen.now) [] state.now event.now) steps.old steps.new }
 {
     let table = LoanTable::new(loan, plan);
-    let is_unpaid = is_unpaid(terms, plan, event);
-    let factor = factor_of(terms, event.source);
-    take_step(&table, factor, is_unpaid, event, state, seen, steps)
-}
-
-/// The code of the settlement factor of a loan's event. A child's row, which a loan has none of, has no factor.
-#[tactic(auto, using(crate::proofs::Contracts::factor_of_loan))]
-fn factor_of(terms: &Terms, source: Source) -> Option<u32>
-    requires { IsSome (loan_terms_of terms.now.common terms.now.kind) }
-    ensures { result ≡ factor_for terms.now (is_own source) }
-{
-    match source {
-        Source::Scheduled(_) | Source::Observed(_) => terms.common.factor,
-        Source::Leg { .. } | Source::Net { .. } => None,
-    }
+    take_step(terms, plan, &table, state, event, seen, steps)
 }

@@ -1,3 +1,5 @@
+pub mod AsksInTurn
+pub mod Lists
 pub mod NamePlaces
 pub mod LatestRates
 pub mod RatePlaces

@@ -1,5 +1,9 @@
 pub mod Answer
+pub mod Asks
+pub mod Journal
+pub mod Kind
 pub mod Latest
+pub mod Limits
 pub mod Name
 pub mod Names
 pub mod Observed

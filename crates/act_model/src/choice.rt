@@ -1,4 +1,7 @@
 //! Choices among the texts that a term may have.
+ghost use Rattle.std.specs.Prelude.{◌≡◌};
+ghost use Rattle.std.specs.Str.{bytes_eq};
+ghost use Rattle.act_model.specs.Kind.{type_name, type_named};
 
 /// Which side of a contract the record's owner is on.
 #[derive(Clone, Copy, Debug, PartialEq, Eq)]
@@ -60,6 +63,61 @@ pub enum ContractType {
     CEG,
     /// Collateral.
     CEC,
+}
+
+/// The types of contracts.
+const TYPES: [ContractType; 13] = [
+    ContractType::PAM,
+    ContractType::LAM,
+    ContractType::NAM,
+    ContractType::ANN,
+    ContractType::STK,
+    ContractType::FXOUT,
+    ContractType::SWPPV,
+    ContractType::SWAPS,
+    ContractType::CAPFL,
+    ContractType::OPTNS,
+    ContractType::FUTUR,
+    ContractType::CEG,
+    ContractType::CEC,
+];
+
+impl ContractType {
+    /// The ACTUS name of the type.
+    pub fn name(self) -> &'static str
+        ensures { result.now ≡ type_name self }
+    {
+        match self {
+            ContractType::PAM => "PAM",
+            ContractType::LAM => "LAM",
+            ContractType::NAM => "NAM",
+            ContractType::ANN => "ANN",
+            ContractType::STK => "STK",
+            ContractType::FXOUT => "FXOUT",
+            ContractType::SWPPV => "SWPPV",
+            ContractType::SWAPS => "SWAPS",
+            ContractType::CAPFL => "CAPFL",
+            ContractType::OPTNS => "OPTNS",
+            ContractType::FUTUR => "FUTUR",
+            ContractType::CEG => "CEG",
+            ContractType::CEC => "CEC",
+        }
+    }
+
+    /// The type of that name, or None where none has it.
+    #[tactic(auto, unfolding(crate::specs::Kind::type_named))]
+    pub fn named(name: &str) -> Option<ContractType>
+        ensures { result ≡ type_named name.now }
+    {
+        TYPES.iter().copied().find(|kind| kind.is_named(name))
+    }
+
+    /// Whether the type has that name.
+    fn is_named(self, name: &str) -> bool
+        ensures { result ≡ bytes_eq (type_name self) name.now }
+    {
+        self.name() == name
+    }
 }
 
 /// What interest of an amortizing loan is computed on.

@@ -1,9 +1,11 @@
 //! The shared vocabulary: contracts' terms, events, states, rows, runs, observations and names.
 #![tactic(auto)]
 
+mod asks;
 mod choice;
 mod event;
 mod journal;
+mod limits;
 mod name;
 mod names;
 mod observed;
@@ -11,12 +13,14 @@ mod run;
 mod state;
 mod terms;
 
+pub use asks::{Asking, asks_of};
 pub use choice::{
     ContractRole, ContractType, DeliverySettlement, ExerciseType, FeeBasis, GuaranteedExposure,
     InterestCalculationBase, OptionType, PenaltyType, ScalingEffect,
 };
 pub use event::{Event, EventType, Source};
 pub use journal::{Answer, Asked, Item, Line, Step};
+pub use limits::{MOST_BYTES, MOST_CONTRACTS, MOST_DATES, MOST_ENTRIES};
 pub use name::{is_currency, is_name};
 pub use names::Names;
 pub use observed::{Listed, Obs, ObsKind, Observed, observed_is_last_of_latest_day};

@@ -195,7 +195,7 @@ impl NameList {
         ensures unchanged { IfErr result (λ _. self.new ≡ self.old) }
     {
         let number = self.texts.len() as u32;
-        let text = String::from_str(*self.texts.allocator(), name).map_err(|_| NoMemory)?;
+        let text = String::from_str(*self.texts.allocator(), name)?;
         let Ok(_) = self.texts.insert(text) else {
             return Err(NoMemory);
         };
@@ -220,9 +220,7 @@ impl NameList {
     fn copied(&self) -> Result<NameList, NoMemory>
         ensures { IfOk result (λ names. names ≡ self.now) }
     {
-        match self.texts.clone() {
-            Ok(texts) => Ok(NameList { texts }),
-            Err(_) => Err(NoMemory),
-        }
+        let texts = self.texts.clone()?;
+        Ok(NameList { texts })
     }
 }

@@ -169,7 +169,7 @@ fn events_of(entries: &[Obs], alloc: Global, contract: u32) -> Result<Vec<Obs>, 
     let mut events = Vec::new(alloc);
     for entry in entries {
         if is_event_of(*entry, contract) {
-            events.push(*entry).map_err(|_| NoMemory)?;
+            events.push(*entry)?;
         }
     }
     Ok(events)

@@ -1,8 +1,12 @@
 //! Plans and runs.
+ghost use Rattle.std.specs.Prelude.{◌≡◌};
+ghost use Rattle.act_model.specs.declared.run.PlanFault.TheVariants as faults;
+
 use crate::event::{Event, EventType};
 use crate::state::State;
 use act_date::{Day, Frac};
-use act_num::Fixed;
+use act_num::{Fixed, NoMemory};
+use std::alloc::{AllocError, AllocFailed};
 use std::marker::Model;
 
 /// What an event pays, and the state that it leaves.
@@ -108,4 +112,28 @@ pub enum PlanFault {
     DateRange,
     /// Memory ran out.
     NoMemory,
+}
+
+impl From<AllocError> for PlanFault {
+    ghost from_gives = { λ _ fault. fault ≡ faults.NoMemory };
+
+    fn from(_error: AllocError) -> PlanFault {
+        PlanFault::NoMemory
+    }
+}
+
+impl<T: Drop> From<AllocFailed<T>> for PlanFault {
+    ghost from_gives = { λ _ fault. fault ≡ faults.NoMemory };
+
+    fn from(_error: AllocFailed<T>) -> PlanFault {
+        PlanFault::NoMemory
+    }
+}
+
+impl From<NoMemory> for PlanFault {
+    ghost from_gives = { λ _ fault. fault ≡ faults.NoMemory };
+
+    fn from(_error: NoMemory) -> PlanFault {
+        PlanFault::NoMemory
+    }
 }

@@ -3,6 +3,9 @@
 //! Each term is one field. A field is an `Option` where an accepted contract of the kind may lack the term and
 //! no fixed value stands for it; a default is filled in. Contracts, codes of market objects and currencies are
 //! numbers of `Names`; days are counted from 1970-01-01, decimals in units of 10^-9.
+ghost use Rattle.std.specs.Prelude.{◌≡◌, option_map};
+ghost use Rattle.act_model.specs.Kind.{exchange_of, loan_of, type_of};
+
 use crate::choice::{
     ContractRole, ContractType, DeliverySettlement, ExerciseType, FeeBasis, GuaranteedExposure,
     InterestCalculationBase, OptionType, PenaltyType, ScalingEffect,
@@ -87,6 +90,56 @@ pub enum Kind {
     CEG(Ceg),
     /// Collateral.
     CEC(Cec),
+}
+
+impl Kind {
+    /// The type of the contract.
+    pub fn contract_type(&self) -> ContractType
+        ensures { result ≡ type_of self.now }
+    {
+        match self {
+            Kind::PAM(_) => ContractType::PAM,
+            Kind::LAM(_) => ContractType::LAM,
+            Kind::NAM(_) => ContractType::NAM,
+            Kind::ANN(_) => ContractType::ANN,
+            Kind::STK(_) => ContractType::STK,
+            Kind::FXOUT(_) => ContractType::FXOUT,
+            Kind::SWPPV(_) => ContractType::SWPPV,
+            Kind::SWAPS(_) => ContractType::SWAPS,
+            Kind::CAPFL(_) => ContractType::CAPFL,
+            Kind::OPTNS(_) => ContractType::OPTNS,
+            Kind::FUTUR(_) => ContractType::FUTUR,
+            Kind::CEG(_) => ContractType::CEG,
+            Kind::CEC(_) => ContractType::CEC,
+        }
+    }
+
+    /// The terms that all loans have, or None of another kind.
+    pub fn loan(&self) -> Option<&Loan>
+        ensures { option_map (λ loan. loan.now) result ≡ loan_of self.now }
+    {
+        match self {
+            Kind::PAM(pam) => Some(&pam.loan),
+            Kind::LAM(lam) => Some(&lam.loan),
+            Kind::NAM(nam) => Some(&nam.loan),
+            Kind::ANN(ann) => Some(&ann.loan),
+            _ => None,
+        }
+    }
+
+    /// The initial exchange of a loan or a plain swap; the other kinds have none.
+    pub fn initial_exchange_date(&self) -> Option<Day>
+        ensures { result ≡ exchange_of self.now }
+    {
+        match self {
+            Kind::PAM(pam) => Some(pam.loan.initial_exchange_date),
+            Kind::LAM(lam) => Some(lam.loan.initial_exchange_date),
+            Kind::NAM(nam) => Some(nam.loan.initial_exchange_date),
+            Kind::ANN(ann) => Some(ann.loan.initial_exchange_date),
+            Kind::SWPPV(swppv) => Some(swppv.initial_exchange_date),
+            _ => None,
+        }
+    }
 }
 
 /// The terms that all loans have: PAM, LAM, NAM and ANN.

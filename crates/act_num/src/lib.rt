@@ -15,8 +15,21 @@ pub use decimal::DecimalFault;
 pub use factor::Factor;
 pub use fixed::Fixed;
 pub use rounding::rnd;
+use std::alloc::{AllocError, AllocFailed};
 pub use steps::Steps;
 
 /// Memory ran out.
 #[derive(Clone, Copy, Debug, PartialEq, Eq)]
 pub struct NoMemory;
+
+impl From<AllocError> for NoMemory {
+    fn from(_error: AllocError) -> NoMemory {
+        NoMemory
+    }
+}
+
+impl<T: Drop> From<AllocFailed<T>> for NoMemory {
+    fn from(_error: AllocFailed<T>) -> NoMemory {
+        NoMemory
+    }
+}

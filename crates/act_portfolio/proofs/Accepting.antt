@@ -4,12 +4,10 @@ use Rattle.std.proofs.lemmas.List.{get_or_default, length-map}
 use Rattle.std.proofs.lemmas.Option.{same_Some, slice_get-map, slice_get_cases}
 use Rattle.std.proofs.lemmas.Simd.{map-map}
 use Rattle.std.specs.List.{All, slice_get}
-use Rattle.act_loan.specs.Cycles.{HasCycles}
+use Rattle.act_profile.specs.Built.{IsBuilt}
 use Rattle.act_model.specs.Names.{NameLists, no_names}
 use Rattle.act_model.specs.Run.{EventPlan}
-use Rattle.act_model.specs.declared.choice.ContractType.TheVariants.{PAM}
 use Rattle.act_model.specs.declared.terms.Terms.{Terms}
-use Rattle.act_profile.specs.Contract.{type_of}
 use Rattle.act_profile.specs.Outcomes.{map_ok, then_ok}
 use Rattle.act_profile.specs.Plan.{plan_of}
 use Rattle.act_terms.specs.Contract.{NamedTerms, contract_of}
@@ -115,8 +113,7 @@ module _ (contracts : List Data) (named : List NamedTerms) (read : NameLists) (n
     holds known codes currencies =
         let many = as_many_read contracts zero no_names named read are_read in
         record {
-          kinds = λ c t here. at_place (λ t. type_of t.kind ≡ PAM) named (λ k d within. (known k d within).kind) c t (rw terms_are at here);
-          cycles = λ c t here. at_place HasCycles named (λ k d within. (known k d within).cycles) c t (rw terms_are at here);
+          built = λ c t here. at_place (λ t. IsBuilt t.kind) named (λ k d within. (known k d within).built) c t (rw terms_are at here);
           planned = rw terms_are (each_planned (map (λ c. c.terms) named) zero plans (plans_are contracts named plans planned));
           ids = rw (names_are, terms_are) (length-map named (λ c. c.id) ∙ sym (length-map named (λ c. c.terms)));
           unused_lists = rw (unused_are, terms_are) (omega (arith, length-map contracts unused_names, length-map named (λ c. c.terms)));

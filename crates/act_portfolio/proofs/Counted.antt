@@ -5,11 +5,10 @@ use Rattle.std.proofs.lemmas.Option.{slice_get-get_or, slice_get-map, slice_get_
 use Rattle.std.specs.List.{slice_get}
 use Rattle.act_model.specs.Names.{NameLists}
 use Rattle.act_model.specs.Run.{EventPlan}
-use Rattle.act_model.specs.declared.choice.ContractType.TheVariants as type
 use Rattle.act_model.specs.declared.terms.Kind.{Kind}
 use Rattle.act_model.specs.declared.terms.Kind.TheVariants as kind
 use Rattle.act_model.specs.declared.terms.Terms.{Terms}
-use Rattle.act_profile.specs.Contract.{type_of}
+use Rattle.act_profile.specs.Built.{IsBuilt}
 use Rattle.act_profile.specs.Lists.{insert_once_by}
 use Rattle.act_profile.specs.Plan.{own_count, plan_of}
 use Rattle.act_profile.specs.Reads.{cone_of, cone_to}
@@ -20,27 +19,16 @@ use Rattle.act_portfolio.specs.Reading.{IsAccepted}
 use Rattle.act_portfolio.proofs.Accepting.{plan_at}
 use Rattle.act_portfolio.proofs.PlanLengths.{plan_is_within}
 
-by_kind : (contract : Kind) (plan : EventPlan) → type_of contract ≡ type.PAM → (own_count contract plan ≡ length plan.events) × (counted_by contract ≡ [])
-by_kind (kind.PAM pam) plan one = (refl, refl)
-by_kind (kind.LAM lam) plan one = absurd (cc)
-by_kind (kind.NAM nam) plan one = absurd (cc)
-by_kind (kind.ANN ann) plan one = absurd (cc)
-by_kind (kind.STK stk) plan one = absurd (cc)
-by_kind (kind.FXOUT fxout) plan one = absurd (cc)
-by_kind (kind.SWPPV swppv) plan one = absurd (cc)
-by_kind (kind.SWAPS swaps) plan one = absurd (cc)
-by_kind (kind.CAPFL capfl) plan one = absurd (cc)
-by_kind (kind.OPTNS optns) plan one = absurd (cc)
-by_kind (kind.FUTUR futur) plan one = absurd (cc)
-by_kind (kind.CEG ceg) plan one = absurd (cc)
-by_kind (kind.CEC cec) plan one = absurd (cc)
+by_kind : (contract : Kind) (plan : EventPlan) → IsBuilt contract → (own_count contract plan ≡ length plan.events) × (counted_by contract ≡ [])
+by_kind (kind.PAM pam) plan built = (refl, refl)
+by_kind other plan built = absurd built
 
--- a PAM counts the events of its plan
-pub count_of_plan : (contracts : Contracts) (c : ℕ) (terms : Terms) (plan : EventPlan) → slice_get contracts.terms c ≡ Some terms → slice_get contracts.plans c ≡ Some plan → type_of terms.kind ≡ type.PAM
+-- a kind that is built counts the events of its plan
+pub count_of_plan : (contracts : Contracts) (c : ℕ) (terms : Terms) (plan : EventPlan) → slice_get contracts.terms c ≡ Some terms → slice_get contracts.plans c ≡ Some plan → IsBuilt terms.kind
     → scheduled_count contracts c ≡ length plan.events
 unfolding scheduled_count
-count_of_plan contracts c terms plan here planned one =
-    let counts = by_kind terms.kind plan one in
+count_of_plan contracts c terms plan here planned built =
+    let counts = by_kind terms.kind plan built in
     rw (here, planned, counts.0, counts.1) (omega arith)
 
 -- without children the cone is the contract itself
@@ -67,7 +55,7 @@ module _ (names : NameLists) (terms : List Terms) (plans : List EventPlan) (unus
   pub counted : (plan : EventPlan) → plan ≡ get_or plans c plan → (scheduled_count (childless names terms plans unused).contracts c ≡ length plan.events) × (length plan.events ≤ 4096)
   counted plan planned = elim (slice_get_cases terms c).1 [
     | inl here ↦
-        let kind = is.kinds c here.0 here.2 in
-        (count_of_plan (childless names terms plans unused).contracts c here.0 plan here.2 (slice_get-get_or plans c plan planned_within ∙ ap Some (sym planned)) kind, plan_is_within here.0 plan kind (plan_at terms plans is.planned c here.0 plan here.2 planned))
+        let built = is.built c here.0 here.2 in
+        (count_of_plan (childless names terms plans unused).contracts c here.0 plan here.2 (slice_get-get_or plans c plan planned_within ∙ ap Some (sym planned)) built, plan_is_within here.0 plan built (plan_at terms plans is.planned c here.0 plan here.2 planned))
     | inr past ↦ absurd (omega arith)
   ]

@@ -6,7 +6,6 @@ use Rattle.std.proofs.lemmas.List.FromFn.{length-enumerate_from}
 use Rattle.std.specs.List.{enumerate_from}
 use Rattle.std.specs.Option.{ok_or}
 use Rattle.act_model.specs.Run.{EventPlan}
-use Rattle.act_model.specs.declared.choice.ContractType.TheVariants as type
 use Rattle.act_model.specs.declared.event.Event.{Event}
 use Rattle.act_model.specs.declared.run.PlanFault.{PlanFault}
 use Rattle.act_model.specs.declared.run.PlanFault.TheVariants.{TooManyDates, DateRange}
@@ -14,14 +13,15 @@ use Rattle.act_model.specs.declared.terms.Common.{Common}
 use Rattle.act_model.specs.declared.terms.Kind.{Kind}
 use Rattle.act_model.specs.declared.terms.Kind.TheVariants as kind
 use Rattle.act_model.specs.declared.terms.Terms.{Terms}
-use Rattle.act_profile.specs.Contract.{type_of}
+use Rattle.act_profile.specs.Built.{IsBuilt}
 use Rattle.act_profile.specs.Lists.{all_of, insert_by}
 use Rattle.act_profile.specs.LoanPlan.{loan_dates, loan_plan, with_redemptions}
 use Rattle.act_profile.specs.LoanTerms.{LoanTerms}
 use Rattle.act_profile.specs.Order.{in_order, precedes}
 use Rattle.act_profile.specs.Outcomes.{map_ok, then_ok}
 use Rattle.act_profile.specs.Plan.{plan_by, plan_of}
-use Rattle.act_profile.specs.Planning.{Planned, events_by_type, most_dates, planned_event, planned_events, type_events}
+use Rattle.act_profile.specs.Planning.{Planned, events_by_type, planned_event, planned_events, type_events}
+use Rattle.act_model.specs.Limits.{most_dates}
 
 -- ---- lists
 
@@ -104,21 +104,10 @@ loan_is_within l plan is = by_events (events_by_type l.common 0 (loan_dates l)) 
         let e : with_redemptions l (in_order events) ≡ plan = cc in
         rw (← e) (omega (arith, types_are_within l.common (loan_dates l) 0 events (omega arith) are, ordered_are_as_many events))
 
-by_kind : (common : Common) (contract : Kind) (plan : EventPlan) → type_of contract ≡ type.PAM → plan_by common contract ≡ Ok plan → length plan.events ≤ 4096
-by_kind common (kind.PAM pam) plan one is = loan_is_within _ plan is
-by_kind common (kind.LAM lam) plan one is = absurd (cc)
-by_kind common (kind.NAM nam) plan one is = absurd (cc)
-by_kind common (kind.ANN ann) plan one is = absurd (cc)
-by_kind common (kind.STK stk) plan one is = absurd (cc)
-by_kind common (kind.FXOUT fxout) plan one is = absurd (cc)
-by_kind common (kind.SWPPV swppv) plan one is = absurd (cc)
-by_kind common (kind.SWAPS swaps) plan one is = absurd (cc)
-by_kind common (kind.CAPFL capfl) plan one is = absurd (cc)
-by_kind common (kind.OPTNS optns) plan one is = absurd (cc)
-by_kind common (kind.FUTUR futur) plan one is = absurd (cc)
-by_kind common (kind.CEG ceg) plan one is = absurd (cc)
-by_kind common (kind.CEC cec) plan one is = absurd (cc)
+by_kind : (common : Common) (contract : Kind) (plan : EventPlan) → IsBuilt contract → plan_by common contract ≡ Ok plan → length plan.events ≤ 4096
+by_kind common (kind.PAM pam) plan built is = loan_is_within _ plan is
+by_kind common other plan built is = absurd built
 
--- the plan of a PAM
-pub plan_is_within : (terms : Terms) (plan : EventPlan) → type_of terms.kind ≡ type.PAM → plan_of terms ≡ Ok plan → length plan.events ≤ 4096
-plan_is_within terms plan one is = by_kind terms.common terms.kind plan one is
+-- the plan of a kind that is built
+pub plan_is_within : (terms : Terms) (plan : EventPlan) → IsBuilt terms.kind → plan_of terms ≡ Ok plan → length plan.events ≤ 4096
+plan_is_within terms plan built is = by_kind terms.common terms.kind plan built is

@@ -2,12 +2,11 @@
 -- refusals and their order are this profile's own.
 use Rattle.std.specs.Prelude.{◌≡◌, ℕ, zero, suc, ◌*◌, ◌≤◌, ◌++◌, slice_get, nat_lt, if◌then◌else◌, is_some, List, [], ◌∷◌, length, map, Option, Some, None, Result, Ok, Err}
 use Rattle.act_json.specs.Reading.{json_of}
+use Rattle.act_model.specs.Limits.{most_contracts}
 use Rattle.act_model.specs.Names.{NameLists, no_names, place_of}
 use Rattle.act_model.specs.Run.{EventPlan}
 use Rattle.act_model.specs.declared.terms.Terms.{Terms}
-use Rattle.act_loan.specs.Cycles.{HasCycles}
-use Rattle.act_model.specs.declared.choice.ContractType.TheVariants.{PAM}
-use Rattle.act_profile.specs.Contract.{type_of}
+use Rattle.act_profile.specs.Built.{IsBuilt}
 use Rattle.act_profile.specs.Plan.{plan_of}
 use Rattle.act_profile.specs.Run.{Contracts}
 use Rattle.act_terms.specs.Contract.{NamedTerms, contract_of}
@@ -43,10 +42,6 @@ contracts_from number names (contract ∷ contracts) = do
   first ← refusing (refused_terms number) (contract_of number names contract)
   rest ← contracts_from (suc number) first.1 contracts
   Ok (first.0 ∷ rest.0, rest.1)
-
--- the most contracts of a portfolio
-abbrev pub most_contracts : ℕ
-most_contracts = 4096
 
 -- there are no more contracts than that
 abbrev pub within_limit : List Data → Result (List Data) Refusal
@@ -99,11 +94,10 @@ portfolio_of bytes = do
 
 -- ---- what is true of an accepted portfolio
 
--- each contract is a PAM whose cycles lead on, and its plan is that of its terms; for each there is a name and a list of unused names; there
+-- each contract is of a kind that is built, and its plan is that of its terms; for each there is a name and a list of unused names; there
 -- are at most 4,096, and they name at most four market objects and two currencies each
 pub record IsAccepted (names : NameLists) (terms : List Terms) (plans : List EventPlan) (unused : List (List (List ℕ))) : Type 0 where
-  pub kinds : (c : ℕ) (t : Terms) → slice_get terms c ≡ Some t → type_of t.kind ≡ PAM
-  pub cycles : (c : ℕ) (t : Terms) → slice_get terms c ≡ Some t → HasCycles t
+  pub built : (c : ℕ) (t : Terms) → slice_get terms c ≡ Some t → IsBuilt t.kind
   pub planned : map plan_of terms ≡ map Ok plans
   pub ids : length names.contracts ≡ length terms
   pub unused_lists : length unused ≡ length terms

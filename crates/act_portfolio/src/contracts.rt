@@ -35,7 +35,7 @@ pub(crate) fn read_contracts(
     let mut named = Vec::new(alloc);
     for (number, contract) in contracts.iter().enumerate() {
         let next = next_contract(alloc, contract, number as u32, names)?;
-        named.push(next).map_err(|_| NoMemory)?;
+        named.push(next)?;
     }
     Ok(named)
 }
@@ -67,7 +67,7 @@ pub(crate) fn terms_alone(alloc: Global, named: Vec<NamedTerms>) -> Result<Vec<T
 {
     let mut terms = Vec::new(alloc);
     for contract in named {
-        terms.push(contract.terms).map_err(|_| NoMemory)?;
+        terms.push(contract.terms)?;
     }
     Ok(terms)
 }

@@ -6,7 +6,7 @@ ghost use Rattle.act_portfolio.specs.declared.fault.PortfolioFault.TheVariants a
 use act_model::PlanFault;
 use act_num::NoMemory;
 use act_terms::{TermFault, TermsFault};
-use std::alloc::Global;
+use std::alloc::{AllocFailed, Global};
 
 /// Why there is no portfolio.
 #[derive(Drop)]
@@ -40,6 +40,14 @@ pub enum PortfolioFault {
     },
     /// Memory ran out.
     NoMemory,
+}
+
+impl<T: Drop> From<AllocFailed<T>> for PortfolioFault {
+    ghost from_gives = { λ _ fault. fault ≡ faults.NoMemory };
+
+    fn from(_error: AllocFailed<T>) -> PortfolioFault {
+        PortfolioFault::NoMemory
+    }
 }
 
 impl From<NoMemory> for PortfolioFault {

@@ -9,4 +9,4 @@ mod portfolio;
 mod reading;
 
 pub use fault::PortfolioFault;
-pub use portfolio::{MOST_BYTES, Portfolio};
+pub use portfolio::Portfolio;

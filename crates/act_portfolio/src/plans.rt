@@ -9,7 +9,7 @@ ghost use Rattle.act_portfolio.specs.Reading.{plans_from};
 ghost use Rattle.act_portfolio.specs.Refusal.{refusal_of, refused_plan, refusing};
 
 use crate::fault::{PortfolioFault, refused_plan};
-use act_loan::schedule;
+use act_contract::schedule;
 use act_model::Plan;
 use act_num::NoMemory;
 use act_terms::{NamedTerms, unused_names};
@@ -30,7 +30,7 @@ pub(crate) fn plan_contracts(
     let mut plans = Vec::new(alloc);
     for (place, contract) in named.iter().enumerate() {
         let plan = next_plan(alloc, contract, place as u32)?;
-        plans.push(plan).map_err(|_| NoMemory)?;
+        plans.push(plan)?;
     }
     Ok(plans)
 }
@@ -56,7 +56,7 @@ pub(crate) fn unused_lists(alloc: Global, contracts: &[Value]) -> Result<Vec<Vec
     let mut lists = Vec::new(alloc);
     for contract in contracts {
         let unused = unused_names(alloc, contract)?;
-        lists.push(unused).map_err(|_| NoMemory)?;
+        lists.push(unused)?;
     }
     Ok(lists)
 }

@@ -1,8 +1,7 @@
 //! A portfolio that was accepted.
 ghost use Rattle.std.specs.Prelude.{◌≡◌, ◌^◌, ◌<◌, ◌≤◌, ℕ, Some, Ok, IfOk, IfErr, IfSome, length, map, slice_get, string_bytes};
-ghost use Rattle.act_loan.specs.Cycles.{HasCycles};
+ghost use Rattle.act_profile.specs.Built.{IsBuilt};
 ghost use Rattle.act_model.specs.declared.terms.Terms.{Terms};
-ghost use Rattle.act_profile.specs.Contract.{type_of};
 ghost use Rattle.act_profile.specs.Plan.{plan_of};
 ghost use Rattle.act_portfolio.specs.Counts.{cone_sum, scheduled_count};
 ghost use Rattle.act_portfolio.specs.Reading.{portfolio_of};
@@ -10,13 +9,10 @@ ghost use Rattle.act_portfolio.specs.Refusal.{refusal_of};
 
 use crate::fault::PortfolioFault;
 use crate::reading::read_portfolio;
-use act_model::{ContractType, Names, Plan, Terms};
+use act_model::{MOST_BYTES, MOST_CONTRACTS, MOST_DATES, Names, Plan, Terms};
 use act_num::NoMemory;
 use std::alloc::Global;
 use std::marker::Model;
-
-/// The most bytes of a portfolio file: 64 MiB.
-pub const MOST_BYTES: usize = 67_108_864;
 
 /// The contracts of an accepted portfolio, numbered from 0 in portfolio order, with the plan of each, what they name, and
 /// the names of each object that the contract's kind doesn't use.
@@ -57,9 +53,8 @@ impl Portfolio {
     /// The terms of the contracts, by their numbers.
     pub fn terms(&self) -> &[Terms]
         ensures terms { result.now ≡ self.now.contracts.terms }
-        ensures few { length result.now ≤ 4_096 }
-        ensures kinds { (c : ℕ) (t : Terms) → slice_get result.now c ≡ Some t → type_of t.kind ≡ ContractType.PAM }
-        ensures cycles { (c : ℕ) (t : Terms) → slice_get result.now c ≡ Some t → HasCycles t }
+        ensures few { length result.now ≤ MOST_CONTRACTS }
+        ensures built { (c : ℕ) (t : Terms) → slice_get result.now c ≡ Some t → IsBuilt t.kind }
     {
         &self.terms
     }
@@ -103,7 +98,7 @@ impl Portfolio {
     pub fn scheduled_count(&self, contract: u32) -> u64
         requires contract { contract < length self.now.contracts.terms }
         ensures count { result ≡ scheduled_count self.now.contracts contract }
-        ensures within { result ≤ 4_096 }
+        ensures within { result ≤ MOST_DATES }
     {
         self.plans[contract as usize].events.len() as u64
     }

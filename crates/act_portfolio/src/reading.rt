@@ -15,15 +15,12 @@ use crate::contracts::{read_contracts, terms_alone};
 use crate::fault::{PortfolioFault, refused};
 use crate::names::name_contracts;
 use crate::plans::{plan_contracts, unused_lists};
-use crate::portfolio::{MOST_BYTES, Portfolio};
+use crate::portfolio::Portfolio;
 use act_json::{JsonFault, read};
-use act_model::{Names, Plan, Terms};
+use act_model::{MOST_BYTES, MOST_CONTRACTS, Names, Plan, Terms};
 use act_terms::NamedTerms;
 use serde_json::Value;
 use std::alloc::Global;
-
-/// The most contracts of a portfolio.
-const MOST_CONTRACTS: usize = 4_096;
 
 /// The terms of contracts, their plans, and the names that their objects don't use.
 #[derive(Drop)]
@@ -133,7 +130,7 @@ fn checked_plans(
     ensures refused { IfErr result (λ fault. IfSome (refusal_of fault) (λ refusal.
         checked_plans (map view contracts.now) named.now ≡ Err refusal)) }
     ensures names { OnOk result (names.new ≡ record names.old { contracts = map (λ c. c.id) named.now }) }
-    ensures few_contracts { OnOk result (length contracts.now ≤ 4_096) }
+    ensures few_contracts { OnOk result (length contracts.now ≤ MOST_CONTRACTS) }
 {
     within_limit(alloc, contracts)?;
     name_contracts(alloc, named, names)?;
@@ -143,7 +140,7 @@ fn checked_plans(
 /// Nothing where there are no more contracts than there may be.
 fn within_limit(alloc: Global, contracts: &[Value]) -> Result<(), PortfolioFault>
     ensures within { OnOk result (within_limit (map view contracts.now) ≡ Ok (map view contracts.now)) }
-    ensures few { OnOk result (length contracts.now ≤ 4_096) }
+    ensures few { OnOk result (length contracts.now ≤ MOST_CONTRACTS) }
     ensures refused { IfErr result (λ fault. IfSome (refusal_of fault) (λ refusal.
         within_limit (map view contracts.now) ≡ Err refusal)) }
 {

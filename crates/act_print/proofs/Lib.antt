@@ -1,4 +1,3 @@
-pub mod AsksInTurn
 pub mod PutTogether
 pub mod PlainWords
 pub mod WordLaws

@@ -13,15 +13,16 @@ use Rattle.act_model.specs.declared.journal.Item.{Item}
 use Rattle.act_model.specs.declared.journal.Step.{Step}
 use Rattle.act_model.specs.declared.journal.Step.TheVariants.{Append, Ask}
 use Rattle.act_text.specs.Lines.{close_text, name_of}
-use Rattle.act_print.specs.Asks.{asks_of, caller_asks, contracts_of}
+use Rattle.act_model.specs.Asks.{asks_of, caller_asks}
+use Rattle.act_model.specs.Journal.{contracts_of}
 use Rattle.act_print.specs.Conditions.{CanBeAsked, ContractsNamed, Due, IsBlock, IsItem, IsRow, IsStep, IsTranscript, due_to_ask, due_in_answer}
 use Rattle.act_print.specs.declared.printed.PrintedRow.{PrintedRow}
 use Rattle.act_print.specs.Faults.{lines_of}
 use Rattle.act_print.specs.Printed.{Block, Response, Transcript}
 use Rattle.act_print.specs.Reading.{Lines}
 use Rattle.act_print.specs.Text.{answer_text, answers_head_text, block_head_text, block_text, answer_head_text, item_text, journal_head_text, printed_row_text, text_of}
-use Rattle.act_print.specs.declared.asks.Asking.{Asking}
-use Rattle.act_print.proofs.AsksInTurn.{asks_from, asks_in_turn}
+use Rattle.act_model.specs.declared.asks.Asking.{Asking}
+use Rattle.act_model.proofs.AsksInTurn.{asks_from, asks_in_turn}
 use Rattle.act_print.proofs.Bytes.{ArePlain, lines_again, unlines}
 use Rattle.act_print.proofs.ItemLaws.{item_content, item_reads, item_text_is}
 use Rattle.act_print.proofs.LineLaws.{close_content, close_reads, close_text_is, count_content, count_line_reads, count_text_is, is_plain, row_content, row_reads, row_text_is}

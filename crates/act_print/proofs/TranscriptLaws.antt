@@ -11,13 +11,14 @@ use Rattle.act_model.specs.declared.journal.Step.TheVariants.{Ask}
 use Rattle.act_model.specs.declared.run.Close.{Close}
 use Rattle.act_model.specs.declared.run.Close.TheVariants.{End}
 use Rattle.act_text.specs.Lines.{name_of}
-use Rattle.act_print.specs.Asks.{asks_of, contracts_of}
+use Rattle.act_model.specs.Asks.{asks_of}
+use Rattle.act_model.specs.Journal.{contracts_of}
 use Rattle.act_print.specs.Conditions.{Due, IsBlock, IsClose, IsItem, IsRow, IsTranscript, due_to_ask, due_in_answer}
 use Rattle.act_print.specs.LineWords.{close_of_line, count_of_line, item_of_line, row_of_line}
 use Rattle.act_print.specs.Printed.{Block, Response, Transcript}
 use Rattle.act_print.specs.Reading.{Lines, Reading, answer_at, answers_at, block_at, blocks_at, is_line, items_at, journal_at, line_by, replies_at, row_or_close, rows_at, transcript_at, with_row}
 use Rattle.act_print.specs.Text.{answers_head_text, block_head_text, answer_head_text}
-use Rattle.act_print.specs.declared.asks.Asking.{Asking}
+use Rattle.act_model.specs.declared.asks.Asking.{Asking}
 use Rattle.act_print.specs.declared.printed.PrintedRow.{PrintedRow}
 use Rattle.act_print.proofs.ItemLaws.{item_content, item_reads}
 use Rattle.act_print.proofs.LineLaws.{close_content, close_first, close_reads, count_content, count_line_reads, is_plain, plain_spaced, row_content, row_first, row_reads, without_feed}

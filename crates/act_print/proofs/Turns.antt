@@ -1,25 +1,19 @@
 -- Values put together in turn, as loops do.
-use Rattle.std.proofs.Common.{◌≡◌, ℕ, suc, ◌+◌, ◌-◌, ◌<◌, ◌≤◌, List, [], ◌∷◌, ◌++◌, length, drop, get_or, Ok, Err, refl, sym, ◌∙◌, ap, add-one, append_assoc, append-nil, drop-cons, arith}
-use Rattle.std.specs.List.{flat_map, range_with_len}
+use Rattle.std.proofs.Common.{◌≡◌, ℕ, suc, ◌+◌, ◌-◌, ◌<◌, ◌≤◌, List, [], ◌∷◌, ◌++◌, length, drop, get_or, Ok, Err, refl, sym, ◌∙◌, ap, append_assoc, append-nil, arith}
+use Rattle.std.specs.List.{range_with_len}
 use Rattle.std.proofs.lemmas.List.{drop_all}
 use Rattle.act_model.specs.declared.run.Close.{Close}
 use Rattle.act_print.specs.Printed.{Block, Response}
 use Rattle.act_print.specs.Reading.{◌>>=◌, Lines, Reading, answer_at, answers_at, block_at, blocks_at, items_at, line_by}
-use Rattle.act_print.specs.declared.asks.Asking.{Asking}
+use Rattle.act_model.specs.declared.asks.Asking.{Asking}
 use Rattle.act_model.specs.Names.{NameLists}
 use Rattle.act_model.specs.declared.journal.Item.{Item}
 use Rattle.act_print.specs.Giving.{Fails, GivesItem}
 use Rattle.act_print.specs.LineWords.{item_of_line}
 use Rattle.act_print.specs.declared.printed.PrintedRow.{PrintedRow}
 use Rattle.act_print.specs.declared.stop.Stop.{Stop}
+use Rattle.act_model.proofs.Lists.{next_of}
 use Rattle.act_print.specs.declared.stop.Stop.TheVariants.{Wrong, NoMemory}
-
--- one number more of those below the end
-pub one_more : {A : Type 0} (f : ℕ → List A) (old new total : List A) (n end : ℕ) → n < end → new ≡ old ++ f n → old ++ flat_map f (range_with_len n (end - n)) ≡ total → new ++ flat_map f (range_with_len (n + 1) (end - (n + 1))) ≡ total
-one_more f old new total n end within more so_far =
-    let k : end - n ≡ suc (end - (n + 1)) = omega arith in
-    let split : old ++ (f n ++ flat_map f (range_with_len (n + 1) (end - (n + 1)))) ≡ total = rw k at so_far in
-    rw more (append_assoc old (f n) (flat_map f (range_with_len (n + 1) (end - (n + 1)))) ∙ split)
 
 -- what was read before, and what is still read
 abbrev pub with_front : {A : Type 0} → List A → Reading (List A) → Reading (List A)
@@ -94,10 +88,6 @@ module _ (names : NameLists) (front : List Block) (n end : ℕ) (lines : Lines) 
   blocks_done past = let k : end - n ≡ 0 = omega arith in all_read front lines total (rw k at so_far)
 
 -- ---- the answers to asks
-
-next_of : {A : Type 0} (xs : List A) (i : ℕ) (x : A) → i < length xs → x ≡ get_or xs i x → drop i xs ≡ x ∷ drop (i + 1) xs
-next_of {A} xs i x within is =
-    drop-cons xs i x within ∙ ap (λ (y : A). y ∷ drop (suc i) xs) (sym is) ∙ ap (λ (k : ℕ). x ∷ drop k xs) (sym (add-one i))
 
 module _ (names : NameLists) (front : List Response) (asks : List Asking) (i : ℕ) (lines : Lines) (total : Reading (List Response)) (so_far : with_front front (answers_at names (drop i asks) lines) ≡ total) where
   answer_turn : (ask : Asking) → i < length asks → ask ≡ get_or asks i ask → with_front front (in_turn (answer_at names ask lines) (answers_at names (drop (i + 1) asks))) ≡ total

@@ -17,9 +17,10 @@ use Rattle.act_model.specs.declared.observed.Obs.TheVariants.{Rate, Event}
 use Rattle.act_model.specs.declared.run.Close.{Close}
 use Rattle.act_model.specs.declared.run.Close.TheVariants.{End, Missing, Overflow}
 use Rattle.act_text.specs.Lines.{name_of}
-use Rattle.act_print.specs.Asks.{asks_of, contracts_of}
+use Rattle.act_model.specs.Asks.{asks_of}
+use Rattle.act_model.specs.Journal.{contracts_of}
 use Rattle.act_print.specs.Printed.{Block, Response, Transcript}
-use Rattle.act_print.specs.declared.asks.Asking.{Asking}
+use Rattle.act_model.specs.declared.asks.Asking.{Asking}
 use Rattle.act_print.specs.declared.printed.PrintedRow.{PrintedRow}
 
 -- the number of a name, which is its place among those of its sort. Of the names of a portfolio and its scripts, none of which stands twice,

@@ -1,6 +1,5 @@
 -- what public clauses cite: what is printed, its text, and which bytes are one
 pub mod Printed
-pub mod Asks
 pub mod Text
 pub mod Conditions
 pub mod Faults

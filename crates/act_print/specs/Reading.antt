@@ -4,11 +4,12 @@ use Rattle.std.specs.Str.{bytes_eq}
 use Rattle.act_model.specs.Names.{NameLists}
 use Rattle.act_model.specs.declared.journal.Item.{Item}
 use Rattle.act_model.specs.declared.run.Close.{Close}
-use Rattle.act_print.specs.Asks.{asks_of, contracts_of}
+use Rattle.act_model.specs.Asks.{asks_of}
+use Rattle.act_model.specs.Journal.{contracts_of}
 use Rattle.act_print.specs.LineWords.{close_of_line, count_of_line, item_of_line, row_of_line}
 use Rattle.act_print.specs.Printed.{Block, Response, Transcript}
 use Rattle.act_print.specs.Text.{answers_head_text, block_head_text, answer_head_text}
-use Rattle.act_print.specs.declared.asks.Asking.{Asking}
+use Rattle.act_model.specs.declared.asks.Asking.{Asking}
 use Rattle.act_print.specs.declared.printed.PrintedRow.{PrintedRow}
 
 -- lines, without their line feeds

@@ -1,5 +1,5 @@
 -- The text of a journal and its answers, as bytes. This profile's own.
-use Rattle.std.specs.Prelude.{ℕ, nat_lt, Bool, true, ℤ, List, [], ◌∷◌, ◌++◌, length, codes, decimal}
+use Rattle.std.specs.Prelude.{ℕ, ℤ, List, [], ◌∷◌, ◌++◌, length, codes, decimal}
 use Rattle.std.specs.List.{flat_map}
 use Rattle.act_num.specs.Decimal.{printed}
 use Rattle.act_date.specs.Text.{date_text}
@@ -51,13 +51,6 @@ asked_text names (One contract) = name_of names.contracts contract
 abbrev pub step_words : NameLists → Step → List (List ℕ)
 step_words names (Append entry) = entry_words names entry
 step_words names (Ask asked) = codes "ask" ∷ asked_text names asked ∷ []
-
--- the code or the contract of a step, if any, is a number of the names
-abbrev pub has_names : NameLists → Step → Bool
-has_names names (Append (Rate code day value)) = nat_lt code (length names.codes)
-has_names names (Append (Event contract kind day value)) = nat_lt contract (length names.contracts)
-has_names names (Ask All) = true
-has_names names (Ask (One contract)) = nat_lt contract (length names.contracts)
 
 -- the line of an item of the journal: the caller, and what it did
 unfoldable pub item_text : NameLists → Item → List ℕ

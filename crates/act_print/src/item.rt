@@ -5,7 +5,8 @@ ghost use Rattle.act_date.specs.Text.{date_text};
 ghost use Rattle.act_model.specs.Name.{is_name};
 ghost use Rattle.act_model.specs.declared.journal.Step.TheVariants.{Append};
 ghost use Rattle.act_text.specs.Lines.{line_of};
-ghost use Rattle.act_print.specs.Text.{entry_words, has_names, item_text, kind_text, value_text};
+ghost use Rattle.act_print.specs.Text.{entry_words, item_text, kind_text, value_text};
+ghost use Rattle.act_model.specs.Journal.{is_known};
 
 use act_date::Day;
 use act_model::{Asked, Item, Names, Obs, ObsKind, Step};
@@ -17,7 +18,7 @@ use itoa::Buffer;
 /// name. Where memory runs out, `out` is as before.
 #[tactic(auto, unfolding(crate::specs::Text::item_text, act_model::specs::Name::has_form))]
 pub fn item_line(names: &Names, item: &Item, out: &mut Vec<u8>) -> Result<(), NoMemory>
-    requires names { has_names names.now item.now.step ≡ true }
+    requires names { is_known names.now item.now.step ≡ true }
     ensures ok { OnOk result (out.new.items ≡ out.old.items ++ item_text names.now item.now) }
     ensures err { OnErr result (out.new.items ≡ out.old.items) }
 {
@@ -32,7 +33,7 @@ pub fn item_line(names: &Names, item: &Item, out: &mut Vec<u8>) -> Result<(), No
 
 /// Adds the line of an entry.
 fn entry_line(names: &Names, caller: u32, entry: Obs, out: &mut Vec<u8>) -> Result<(), NoMemory>
-    requires names { has_names names.now (Append entry) ≡ true }
+    requires names { is_known names.now (Append entry) ≡ true }
     ensures ok { OnOk result (out.new.items
         ≡ out.old.items ++ line_of (decimal caller) (entry_words names.now entry)) }
     ensures err { OnErr result (out.new.items ≡ out.old.items) }

@@ -3,12 +3,11 @@ ghost use Rattle.std.specs.Prelude.{◌≡◌, option_map};
 ghost use Rattle.act_print.specs.Giving.{Gives};
 ghost use Rattle.act_print.specs.Reading.{items_at};
 ghost use Rattle.act_print.specs.LineWords.{ask_words, count_of_line, credit_word, event_words, happening_words, item_of_line, rate_words, step_of_words};
+ghost use Rattle.act_print.specs.Words.{number_word};
 
 use crate::reader::Reader;
 use crate::stop::Stop;
-use crate::words::{
-    caller_word, code_word, contract_word, count_word, day_word, number_word, word_at,
-};
+use crate::words::{caller_word, code_at, contract_word, count_word, day_at, number_word, word_at};
 use act_model::{Asked, Item, Names, Obs, ObsKind, Step};
 use act_num::Fixed;
 use std::alloc::Global;
@@ -71,14 +70,14 @@ fn step_of_words(names: &Names, word: &[u8], text: &[u8]) -> Option<Step>
 }
 
 /// A rate, behind its word.
-#[tactic(auto, unfolding(crate::specs::LineWords::rate_words, crate::specs::Words::value_at))]
+#[tactic(auto, unfolding(crate::specs::LineWords::rate_words))]
 fn rate_of_words(names: &Names, text: &[u8]) -> Option<Step>
     ensures { result ≡ rate_words names.now text.now }
 {
-    let (word, rest) = word_at(text)?;
-    let code = code_word(names, word)?;
-    let (word, rest) = word_at(rest)?;
-    let day = day_word(word)?;
+    let (code, rest) = code_at(names, text)?;
+    let Some((day, rest)) = day_at(rest) else {
+        return None;
+    };
     let value = number_word(rest)?;
     Some(Step::Append(Obs::Rate { code, day, value }))
 }
@@ -91,8 +90,9 @@ fn event_of_words(names: &Names, text: &[u8]) -> Option<Step>
     let (word, rest) = word_at(text)?;
     let contract = contract_word(names, word)?;
     let (kind, rest) = word_at(rest)?;
-    let (word, rest) = word_at(rest)?;
-    let day = day_word(word)?;
+    let Some((day, rest)) = day_at(rest) else {
+        return None;
+    };
     let (kind, value) = happening_of_words(kind, rest)?;
     Some(Step::Append(Obs::Event {
         contract,
@@ -108,16 +108,23 @@ fn happening_of_words(kind: &[u8], value: &[u8]) -> Option<(ObsKind, Fixed)>
     ensures { result ≡ happening_words kind.now value.now }
 {
     if kind == b"PP".as_slice() {
-        Some((ObsKind::PP, number_word(value)?))
+        amount_of_word(ObsKind::PP, value)
     } else if kind == b"DV".as_slice() {
-        Some((ObsKind::DV, number_word(value)?))
+        amount_of_word(ObsKind::DV, value)
     } else if kind == b"XD".as_slice() {
-        Some((ObsKind::XD, number_word(value)?))
+        amount_of_word(ObsKind::XD, value)
     } else if kind == b"CE".as_slice() {
         Some((credit_of_word(value)?, Fixed::ZERO))
     } else {
         None
     }
+}
+
+/// A kind of event with the amount of a word.
+fn amount_of_word(kind: ObsKind, word: &[u8]) -> Option<(ObsKind, Fixed)>
+    ensures { result ≡ option_map (λ amount. (kind, amount)) (number_word word.now) }
+{
+    Some((kind, number_word(word)?))
 }
 
 /// A credit event, by its word.

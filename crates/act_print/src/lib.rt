@@ -1,7 +1,6 @@
 //! The text of a journal and its answers, written and read.
 #![tactic(auto)]
 
-mod asks;
 mod fault;
 mod heads;
 mod item;
@@ -15,7 +14,6 @@ mod stop;
 mod transcript;
 mod words;
 
-pub use asks::Asking;
 pub use fault::TextFault;
 pub use heads::{answer_head, answers_head, block_head, journal_head};
 pub use item::item_line;

@@ -30,7 +30,7 @@ impl<'a> Model for Reader<'a> {
 }
 
 /// A line among rows.
-#[derive(Clone, Copy, Debug, PartialEq, Eq)]
+#[derive(Clone, Copy)]
 pub(crate) enum Next {
     /// A row.
     Row(PrintedRow),

@@ -1,28 +1,33 @@
 //! Reading the lines of rows and of how they close.
 ghost use Rattle.std.specs.Prelude.{◌≡◌, option_map};
 ghost use Rattle.act_print.specs.LineWords.{close_of_line, missing_words, overflow_words, row_of_line, stop_words};
+ghost use Rattle.act_print.specs.Words.{name_word, type_word, value_at};
 
 use crate::printed::PrintedRow;
-use crate::words::{code_word, currency_word, day_word, number_word, type_word, word_at};
-use act_model::{Close, Names};
+use crate::words::{
+    code_at, currency_word, day_at, day_word, number_at, number_word, type_word, word_at,
+};
+use act_model::{Close, EventType, Names};
 
 /// The row of a line.
-#[tactic(auto, unfolding(crate::specs::LineWords::row_of_line, crate::specs::Words::value_at))]
+#[tactic(auto, unfolding(crate::specs::LineWords::row_of_line))]
 pub(crate) fn row_of_line(names: &Names, line: &[u8]) -> Option<PrintedRow>
     ensures { result ≡ row_of_line names.now line.now }
 {
-    let (word, rest) = word_at(line)?;
-    let day = day_word(word)?;
-    let (word, rest) = word_at(rest)?;
-    let kind = type_word(word)?;
-    let (word, rest) = word_at(rest)?;
-    let currency = currency_word(names, word)?;
-    let (word, rest) = word_at(rest)?;
-    let payoff = number_word(word)?;
-    let (word, rest) = word_at(rest)?;
-    let nt = number_word(word)?;
-    let (word, rest) = word_at(rest)?;
-    let ipnr = number_word(word)?;
+    let Some((day, rest)) = day_at(line) else {
+        return None;
+    };
+    let (kind, rest) = type_at(rest)?;
+    let (currency, rest) = currency_at(names, rest)?;
+    let Some((payoff, rest)) = number_at(rest) else {
+        return None;
+    };
+    let Some((nt, rest)) = number_at(rest) else {
+        return None;
+    };
+    let Some((ipnr, rest)) = number_at(rest) else {
+        return None;
+    };
     let ipac = number_word(rest)?;
     Some(PrintedRow {
         day,
@@ -33,6 +38,26 @@ pub(crate) fn row_of_line(names: &Names, line: &[u8]) -> Option<PrintedRow>
         ipnr,
         ipac,
     })
+}
+
+/// A type of events, the first word of a text, and what stands behind it.
+#[tactic(auto, unfolding(crate::specs::Words::value_at))]
+fn type_at(text: &[u8]) -> Option<(EventType, &[u8])>
+    ensures { option_map (λ v. (v.0, v.1.now)) result ≡ value_at type_word text.now }
+{
+    let (word, rest) = word_at(text)?;
+    let kind = type_word(word)?;
+    Some((kind, rest))
+}
+
+/// The number of a currency, whose name is the first word of a text, and what stands behind it.
+#[tactic(auto, unfolding(crate::specs::Words::value_at))]
+fn currency_at<'a>(names: &Names, text: &'a [u8]) -> Option<(u32, &'a [u8])>
+    ensures { option_map (λ v. (v.0, v.1.now)) result ≡ value_at (name_word names.now.currencies) text.now }
+{
+    let (word, rest) = word_at(text)?;
+    let currency = currency_word(names, word)?;
+    Some((currency, rest))
 }
 
 /// How rows close, of a line.
@@ -62,23 +87,23 @@ fn stop_of_words(names: &Names, word: &[u8], text: &[u8]) -> Option<Close>
 }
 
 /// An observation that isn't there, behind its word.
-#[tactic(auto, unfolding(crate::specs::LineWords::missing_words, crate::specs::Words::value_at))]
+#[tactic(auto, unfolding(crate::specs::LineWords::missing_words))]
 fn missing_of_words(names: &Names, text: &[u8]) -> Option<Close>
     ensures { result ≡ missing_words names.now text.now }
 {
-    let (word, rest) = word_at(text)?;
-    let code = code_word(names, word)?;
+    let (code, rest) = code_at(names, text)?;
     let day = day_word(rest)?;
     Some(Close::Missing { code, day })
 }
 
 /// An amount that is undefined, behind its word.
-#[tactic(auto, unfolding(crate::specs::LineWords::overflow_words, crate::specs::Words::value_at))]
+#[tactic(auto, unfolding(crate::specs::LineWords::overflow_words))]
 fn overflow_of_words(text: &[u8]) -> Option<Close>
     ensures { result ≡ overflow_words text.now }
 {
-    let (word, rest) = word_at(text)?;
-    let day = day_word(word)?;
+    let Some((day, rest)) = day_at(text) else {
+        return None;
+    };
     let kind = type_word(rest)?;
     Some(Close::Overflow { day, kind })
 }

@@ -2,10 +2,10 @@
 ghost use Rattle.std.specs.Prelude.{◌≡◌};
 ghost use Rattle.act_print.specs.declared.stop.Stop.TheVariants.{NoMemory};
 
-use std::alloc::{AllocError, AllocFailed};
+use std::alloc::AllocFailed;
 
 /// Why reading stops.
-#[derive(Clone, Copy, Debug, PartialEq, Eq)]
+#[derive(Clone, Copy)]
 pub(crate) enum Stop {
     /// The next line can't stand where it stands, or there is none.
     Wrong,
@@ -13,10 +13,10 @@ pub(crate) enum Stop {
     NoMemory,
 }
 
-impl From<AllocError> for Stop {
+impl From<act_num::NoMemory> for Stop {
     ghost from_gives = { λ _ stop. stop ≡ NoMemory };
 
-    fn from(_error: AllocError) -> Stop {
+    fn from(_error: act_num::NoMemory) -> Stop {
         Stop::NoMemory
     }
 }
@@ -25,14 +25,6 @@ impl<T: Drop> From<AllocFailed<T>> for Stop {
     ghost from_gives = { λ _ stop. stop ≡ NoMemory };
 
     fn from(_error: AllocFailed<T>) -> Stop {
-        Stop::NoMemory
-    }
-}
-
-impl From<act_num::NoMemory> for Stop {
-    ghost from_gives = { λ _ stop. stop ≡ NoMemory };
-
-    fn from(_error: act_num::NoMemory) -> Stop {
         Stop::NoMemory
     }
 }

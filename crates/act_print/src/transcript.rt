@@ -4,15 +4,14 @@ ghost use Rattle.std.specs.List.{range_with_len};
 ghost use Rattle.act_print.specs.Conditions.{ContractsNamed};
 ghost use Rattle.act_print.specs.Giving.{Gives};
 ghost use Rattle.act_print.specs.Reading.{answer_at, answers_at, block_at, blocks_at, items_at, journal_at, replies_at, rows_at, transcript_at};
-ghost use Rattle.act_print.specs.Asks.{contracts_of};
+ghost use Rattle.act_model.specs.Journal.{contracts_of};
 
-use crate::asks::{Asking, asks_of};
 use crate::heads::{answer_line, answers_line, block_line};
 use crate::items::read_items;
 use crate::printed::{Printed, PrintedAnswer, PrintedBlock, PrintedRow};
 use crate::reader::{Next, Reader};
 use crate::stop::Stop;
-use act_model::{Asked, Close, Item, Names};
+use act_model::{Asked, Asking, Close, Item, Names, asks_of};
 use act_num::NoMemory;
 use std::alloc::Global;
 

@@ -22,6 +22,36 @@ pub(crate) fn word_at(text: &[u8]) -> Option<(&[u8], &[u8])>
     Some((&text[..end], &text[end + 1..]))
 }
 
+/// A number, the first word of a text, and what stands behind it.
+#[tactic(auto, unfolding(crate::specs::Words::value_at))]
+pub(crate) fn number_at(text: &[u8]) -> Option<(Fixed, &[u8])>
+    ensures { option_map (λ v. (v.0, v.1.now)) result ≡ value_at number_word text.now }
+{
+    let (word, rest) = word_at(text)?;
+    let number = number_word(word)?;
+    Some((number, rest))
+}
+
+/// A day, the first word of a text, and what stands behind it.
+#[tactic(auto, unfolding(crate::specs::Words::value_at))]
+pub(crate) fn day_at(text: &[u8]) -> Option<(Day, &[u8])>
+    ensures { option_map (λ v. (v.0, v.1.now)) result ≡ value_at day_word text.now }
+{
+    let (word, rest) = word_at(text)?;
+    let day = day_word(word)?;
+    Some((day, rest))
+}
+
+/// The number of a market object, whose name is the first word of a text, and what stands behind it.
+#[tactic(auto, unfolding(crate::specs::Words::value_at))]
+pub(crate) fn code_at<'a>(names: &Names, text: &'a [u8]) -> Option<(u32, &'a [u8])>
+    ensures { option_map (λ v. (v.0, v.1.now)) result ≡ value_at (name_word names.now.codes) text.now }
+{
+    let (word, rest) = word_at(text)?;
+    let code = code_word(names, word)?;
+    Some((code, rest))
+}
+
 /// The place of the first space.
 fn first_space(text: &[u8]) -> Option<usize>
     ensures { result ≡ position (λ byte. byte == 32) text.now }

@@ -10,7 +10,7 @@ use Rattle.act_model.specs.declared.run.PlanFault.{PlanFault}
 use Rattle.act_model.specs.declared.run.PlanFault.TheVariants.{TooManyDates, DateRange}
 use Rattle.act_model.specs.declared.terms.Lam.{Lam}
 use Rattle.act_profile.specs.Lists.{insert_once_by}
-use Rattle.act_profile.specs.Planning.{most_dates}
+use Rattle.act_model.specs.Limits.{most_dates}
 use Rattle.act_sched.specs.Schedule.{schedule_dates}
 
 -- ---- dates that recur

@@ -19,7 +19,8 @@ use Rattle.act_model.specs.declared.terms.Kind.{Kind}
 use Rattle.act_model.specs.declared.terms.Kind.TheVariants as kind
 use Rattle.act_model.specs.declared.terms.Loan.{Loan}
 use Rattle.act_model.specs.declared.terms.Terms.{Terms}
-use Rattle.act_profile.specs.Contract.{loan_of, observed_as}
+use Rattle.act_profile.specs.Contract.{observed_as}
+use Rattle.act_model.specs.Kind.{loan_of}
 use Rattle.act_profile.specs.Credit.{guarantee_events}
 use Rattle.act_profile.specs.Exercise.{events_exercised_on, exercise_day, settled_events}
 use Rattle.act_profile.specs.Legs.{capfl_events, swaps_events}

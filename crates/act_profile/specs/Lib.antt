@@ -1,3 +1,4 @@
+pub mod Built
 pub mod Contract
 pub mod Credit
 pub mod Dates

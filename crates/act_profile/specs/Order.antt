@@ -9,7 +9,7 @@ use Rattle.act_model.specs.declared.event.EventType.TheVariants.{IED, PR, PP, PY
 use Rattle.act_model.specs.declared.event.Source.{Source}
 use Rattle.act_model.specs.declared.event.Source.TheVariants.{Scheduled, Observed, Leg, Net}
 use Rattle.act_model.specs.declared.terms.Kind.{Kind}
-use Rattle.act_profile.specs.Contract.{exchange_of}
+use Rattle.act_model.specs.Kind.{exchange_of}
 use Rattle.act_profile.specs.Lists.{insert_by}
 
 -- ---- order

@@ -5,6 +5,7 @@ use Rattle.std.specs.List.{enumerate_from}
 use Rattle.std.specs.Option.{ok_or}
 use Rattle.act_calendar.specs.Shift.{shift_of}
 use Rattle.act_calendar.specs.declared.shifting.Shifted.{Shifted}
+use Rattle.act_model.specs.Limits.{most_dates}
 use Rattle.act_model.specs.declared.event.Event.{Event}
 use Rattle.act_model.specs.declared.event.EventType.{EventType}
 use Rattle.act_model.specs.declared.event.Source.TheVariants.{Scheduled}
@@ -59,10 +60,6 @@ abbrev pub planned_events : Common → List Planned → Option (List Event)
 planned_events common dates = all_of (map (planned_event common) (enumerate_from 0 dates))
 
 -- ---- the events of all types, or the first fault
-
--- the most scheduled events of a contract, and the most redemptions of one
-abbrev pub most_dates : ℕ
-most_dates = 4096
 
 -- the events of one type's dates, after so many of earlier types; a fault where there are too many, or else where one is undefined
 abbrev pub type_events : Common → ℕ → List Planned → Result (List Event) PlanFault

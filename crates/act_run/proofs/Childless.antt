@@ -1,7 +1,6 @@
 -- A contract that reads no children's runs: one that isn't a swap of two contracts, a cap and floor or a guarantee.
 use Rattle.std.proofs.Common.{◌≡◌, Bool, true, false, ℕ, ℤ, List, [], ◌∷◌, ◌++◌, Result, Ok, Err, refl, sym, ap, ◌∙◌}
 use Rattle.act_model.specs.Run.{EventPlan, Stream}
-use Rattle.act_model.specs.declared.choice.ContractType.TheVariants as type
 use Rattle.act_model.specs.declared.event.Event.{Event}
 use Rattle.act_model.specs.declared.event.EventType.{EventType}
 use Rattle.act_model.specs.declared.event.EventType.TheVariants.{XD}
@@ -13,7 +12,7 @@ use Rattle.act_model.specs.declared.terms.Common.{Common}
 use Rattle.act_model.specs.declared.terms.Kind.{Kind}
 use Rattle.act_model.specs.declared.terms.Kind.TheVariants as kind
 use Rattle.act_model.specs.declared.terms.Terms.{Terms}
-use Rattle.act_profile.specs.Contract.{type_of}
+use Rattle.act_profile.specs.Built.{IsBuilt}
 use Rattle.act_profile.specs.Events.{events_of, events_of_children, events_observed, events_scheduled, with_exercise}
 use Rattle.act_profile.specs.Order.{counting, in_order, is_own}
 use Rattle.act_profile.specs.Run.{own_run, row_of, rows_from, run_from, run_over, stopped_at_once, with_row}
@@ -30,9 +29,9 @@ is_childless (kind.CEG ceg) = false
 is_childless (kind.CEC cec) = false
 is_childless other = true
 
-pub childless_pam : (contract : Kind) → type_of contract ≡ type.PAM → is_childless contract ≡ true
-childless_pam (kind.PAM pam) is = refl
-childless_pam other is = absurd (cc)
+pub childless_built : (contract : Kind) → IsBuilt contract → is_childless contract ≡ true
+childless_built (kind.PAM pam) built = refl
+childless_built other built = absurd built
 
 -- ---- the events
 

@@ -1,6 +1,6 @@
 -- The rows of events, event by event.
 use Rattle.std.proofs.Common.{◌≡◌, ℕ, ◌+◌, ◌<◌, ◌≤◌, ℤ, List, [], ◌∷◌, ◌++◌, length, drop, get_or, Result, Ok, Err, refl, sym, ◌∙◌, ap, append_assoc, append-nil}
-use Rattle.std.proofs.lemmas.List.{drop_all, drop_more}
+use Rattle.std.proofs.lemmas.List.{drop_all}
 use Rattle.act_model.specs.Run.{Stream}
 use Rattle.act_model.specs.declared.event.Event.{Event}
 use Rattle.act_model.specs.declared.run.Close.{Close}
@@ -10,6 +10,7 @@ use Rattle.act_model.specs.declared.run.Stop.{Stop}
 use Rattle.act_model.specs.declared.state.State.{State}
 use Rattle.act_profile.specs.Outcomes.{map_ok}
 use Rattle.act_profile.specs.Run.{close_of, row_of, rows_from, stopped_at_once, with_row}
+use Rattle.act_model.proofs.Lists.{next_of}
 
 abbrev pub Step : Type 0
 Step = State → Event → Result (ℤ × State) Stop
@@ -57,10 +58,6 @@ rows_of_none step currency s = refl
 
 pub taken_none : (step : Step) (currency : Event → ℕ) (first : State) (events : List Event) → HasTaken step currency first events [] first 0
 taken_none step currency first events = record { is = refl }
-
--- what comes next
-next_of : (events : List Event) (k : ℕ) (event : Event) → k < length events → event ≡ get_or events k event → drop k events ≡ event ∷ drop (k + 1) events
-next_of events k event lt here = drop_more events k event lt ∙ ap (λ e. e ∷ drop (k + 1) events) (sym here)
 
 one_more : (rows : List Row) (row : Row) (run : Stream) → with_rows rows (with_row row run) ≡ with_rows (rows ++ row ∷ []) run
 one_more rows row run = ap (λ all. record { rows = all; close = run.close }) (sym (append_assoc rows (row ∷ []) run.rows))

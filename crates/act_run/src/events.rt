@@ -1,15 +1,14 @@
 //! The events of a contract over a list of entries.
-ghost use Rattle.std.specs.Prelude.{◌≡◌, [], ◌∷◌, ◌++◌, IfOk, IfSome};
+ghost use Rattle.std.specs.Prelude.{◌≡◌, [], ◌∷◌, ◌++◌, IfOk};
 ghost use Rattle.std.specs.List.{enumerate_from, flat_map};
-ghost use Rattle.act_profile.specs.Contract.{loan_of, observed_as, type_of};
+ghost use Rattle.act_profile.specs.Contract.{observed_as};
+ghost use Rattle.act_profile.specs.Built.{IsBuilt};
 ghost use Rattle.act_profile.specs.Events.{event_observed, events_by, events_observed, events_of, events_of_entry, prepayment_events};
 
-use crate::memory::push;
 use act_date::Day;
 use act_kind::{put_in_order, retain_counting};
 use act_model::{
-    Common, ContractType, Event, EventType, Kind, Obs, ObsKind, Observed, PenaltyType, Plan,
-    Source, Terms,
+    Common, Event, EventType, Kind, Obs, ObsKind, Observed, PenaltyType, Plan, Source, Terms,
 };
 use act_num::{Fixed, NoMemory};
 use std::alloc::Global;
@@ -22,23 +21,13 @@ pub fn events_of<O: Observed>(
     plan: &Plan,
     seen: &O,
 ) -> Result<Vec<Event>, NoMemory>
-    requires { type_of terms.now.kind ≡ ContractType.PAM }
+    requires { IsBuilt terms.now.kind }
     ensures { IfOk result (λ events. events.items ≡ events_of terms.now plan.now (O.entries seen.now) []) }
 {
-    let mut events = scheduled(alloc, plan)?;
+    let mut events = Vec::from_slice(alloc, &plan.events)?;
     add_observed(alloc, &mut events, terms, seen)?;
     put_in_order(&mut events)?;
     Ok(retain_counting(terms, events))
-}
-
-/// The scheduled events.
-fn scheduled(alloc: Global, plan: &Plan) -> Result<Vec<Event>, NoMemory>
-    ensures { IfOk result (λ events. events.items ≡ plan.now.events) }
-{
-    match Vec::from_slice(alloc, &plan.events) {
-        Ok(events) => Ok(events),
-        Err(_) => Err(NoMemory),
-    }
 }
 
 /// Adds the observed events of a contract, in the order of the entries.
@@ -48,7 +37,6 @@ fn add_observed<O: Observed>(
     terms: &Terms,
     seen: &O,
 ) -> Result<(), NoMemory>
-    requires { type_of terms.now.kind ≡ ContractType.PAM }
     ensures { IfOk result (λ _. events.new.items ≡ events.old.items ++ events_observed terms.now (O.entries seen.now)) }
 {
     let entries = seen.events_of(alloc, observed_as(&terms.common))?;
@@ -57,7 +45,6 @@ fn add_observed<O: Observed>(
 
 /// Adds the events of a contract's entries, each with the entry's place among them.
 fn add_all(events: &mut Vec<Event>, kind: &Kind, entries: &[Obs]) -> Result<(), NoMemory>
-    requires { type_of kind.now ≡ ContractType.PAM }
     ensures { IfOk result (λ _. events.new.items ≡ events.old.items ++ flat_map (events_of_entry kind.now) (enumerate_from 0 entries.now)) }
 {
     'entries: for (place, entry) in entries.iter().enumerate() {
@@ -75,7 +62,6 @@ fn observed_as(common: &Common) -> u32
 
 /// Adds the events that an entry at a place makes.
 fn add_events(events: &mut Vec<Event>, kind: &Kind, place: u64, entry: Obs) -> Result<(), NoMemory>
-    requires { type_of kind.now ≡ ContractType.PAM }
     ensures { IfOk result (λ _. events.new.items ≡ events.old.items ++ events_of_entry kind.now (place, entry)) }
 {
     match entry {
@@ -99,14 +85,20 @@ fn add_by(
     day: Day,
     value: Fixed,
 ) -> Result<(), NoMemory>
-    requires { type_of kind.now ≡ ContractType.PAM }
     ensures { IfOk result (λ _. events.new.items ≡ events.old.items ++ events_by kind.now place observed day value) }
 {
     match observed {
-        ObsKind::PP => add_prepayment(events, place, day, value, penalty_type(kind)),
-        ObsKind::DV | ObsKind::XD => Ok(()),
+        ObsKind::PP => match kind.loan() {
+            Some(loan) => add_prepayment(events, place, day, value, loan.penalty_type),
+            None => Ok(()),
+        },
+        ObsKind::DV => match kind {
+            Kind::STK(_) => Ok(events.push(event_observed(place, EventType::DV, day, value))?),
+            _ => Ok(()),
+        },
+        ObsKind::XD => Ok(()),
         ObsKind::DL | ObsKind::DQ | ObsKind::DF => {
-            push(events, event_observed(place, EventType::CE, day, value))
+            Ok(events.push(event_observed(place, EventType::CE, day, value))?)
         }
     }
 }
@@ -121,22 +113,11 @@ fn add_prepayment(
 ) -> Result<(), NoMemory>
     ensures { IfOk result (λ _. events.new.items ≡ events.old.items ++ prepayment_events place day value penalty) }
 {
-    push(events, event_observed(place, EventType::PP, day, value))?;
+    events.push(event_observed(place, EventType::PP, day, value))?;
     if penalty == PenaltyType::O {
         return Ok(());
     }
-    push(events, event_observed(place, EventType::PY, day, value))
-}
-
-/// How the penalty of a loan's prepayment is computed.
-fn penalty_type(kind: &Kind) -> PenaltyType
-    requires { type_of kind.now ≡ ContractType.PAM }
-    ensures { IfSome (loan_of kind.now) (λ loan. result ≡ loan.penalty_type) }
-{
-    match kind {
-        Kind::PAM(pam) => pam.loan.penalty_type,
-        _ => unreachable!(),
-    }
+    Ok(events.push(event_observed(place, EventType::PY, day, value))?)
 }
 
 /// An event on the day of an observation, with the observation's place among those of the contract.

@@ -2,7 +2,6 @@
 #![tactic(auto)]
 
 mod events;
-mod memory;
 mod portfolio;
 mod rows;
 mod run;

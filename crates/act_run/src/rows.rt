@@ -1,17 +1,15 @@
 //! The rows of events.
 ghost use Rattle.std.specs.Prelude.{◌≡◌, ◌+◌, [], length, Ok, IfOk, IfErr};
-ghost use Rattle.act_model.specs.declared.event.Event.{Event};
-ghost use Rattle.act_profile.specs.Contract.{type_of};
+ghost use Rattle.act_kind.specs.Takes.{Takes};
+ghost use Rattle.act_profile.specs.Built.{IsBuilt};
 ghost use Rattle.act_profile.specs.Outcomes.{map_ok};
 ghost use Rattle.act_profile.specs.Plan.{plan_of};
 ghost use Rattle.act_profile.specs.Run.{close_of, row_of, rows_from, stopped_at_once};
-ghost use Rattle.act_profile.specs.Steps.{currency_of, own_currency, step_of};
+ghost use Rattle.act_profile.specs.Steps.{currency_of, step_of};
 
-use crate::memory::push;
-use act_model::{
-    Close, Common, ContractType, Event, Kind, Observed, Plan, Row, Run, State, Stop, Terms,
-};
-use act_num::{Fixed, NoMemory, Steps};
+use act_contract::{currency_of, step};
+use act_model::{Close, Event, Observed, Plan, Row, Run, State, Stop, Terms};
+use act_num::{NoMemory, Steps};
 use std::alloc::Global;
 use std::sync::ledger::Ledger;
 
@@ -25,19 +23,19 @@ pub fn rows_from<O: Observed, L: Ledger>(
     seen: &O,
     steps: &mut Steps<L>,
 ) -> Result<Run, NoMemory>
-    requires kind { type_of terms.now.kind ≡ ContractType.PAM }
+    requires built { IsBuilt terms.now.kind }
     requires plan { plan_of terms.now ≡ Ok plan.now }
     ensures run { IfOk result (λ run. run
         ≡ rows_from (step_of terms.now plan.now (O.entries seen.now) []) (currency_of terms.now []) first events.now) }
     ensures ticked { IfOk result (λ run. steps.new ≡ steps.old + length run.rows) }
 {
-    let mut rows = no_rows(alloc, events.len())?;
+    let mut rows = Vec::with_capacity(alloc, events.len())?;
     let mut state = first;
     'events: for event in events {
         match next_row(terms, plan, &state, event, seen, steps) {
             Ok(row) => {
                 state = row.state;
-                push(&mut rows, row)?;
+                rows.push(row)?;
             }
             Err(stop) => {
                 let close = close_of(stop);
@@ -49,16 +47,6 @@ pub fn rows_from<O: Observed, L: Ledger>(
         rows,
         close: Close::End,
     })
-}
-
-/// No rows, with room for so many.
-fn no_rows(alloc: Global, room: usize) -> Result<Vec<Row>, NoMemory>
-    ensures { IfOk result (λ rows. rows.items ≡ []) }
-{
-    match Vec::with_capacity(alloc, room) {
-        Ok(rows) => Ok(rows),
-        Err(_) => Err(NoMemory),
-    }
 }
 
 /// No rows, and a stop.
@@ -80,12 +68,10 @@ fn next_row<O: Observed, L: Ledger>(
     seen: &O,
     steps: &mut Steps<L>,
 ) -> Result<Row, Stop>
-    requires kind { type_of terms.now.kind ≡ ContractType.PAM }
+    requires built { IsBuilt terms.now.kind }
     requires plan { plan_of terms.now ≡ Ok plan.now }
-    ensures row { result ≡ map_ok (row_of event.now (currency_of terms.now [] event.now))
-        (step_of terms.now plan.now (O.entries seen.now) [] state.now event.now) }
-    ensures ticked { IfOk result (λ _. steps.new ≡ steps.old + 1) }
-    ensures unticked { IfErr result (λ _. steps.new ≡ steps.old) }
+    ensures { Takes result (map_ok (row_of event.now (currency_of terms.now [] event.now))
+        (step_of terms.now plan.now (O.entries seen.now) [] state.now event.now)) steps.old steps.new }
 {
     match step(terms, plan, state, event, seen, steps) {
         Ok((payoff, next)) => Ok(Row {
@@ -97,46 +83,6 @@ fn next_row<O: Observed, L: Ledger>(
         }),
         Err(stop) => Err(stop),
     }
-}
-
-/// What an event pays and the state after it, or why the run stops there. Where it is Ok it ticks once, and else not at
-/// all.
-fn step<O: Observed, L: Ledger>(
-    terms: &Terms,
-    plan: &Plan,
-    state: &State,
-    event: &Event,
-    seen: &O,
-    steps: &mut Steps<L>,
-) -> Result<(Fixed, State), Stop>
-    requires kind { type_of terms.now.kind ≡ ContractType.PAM }
-    requires plan { plan_of terms.now ≡ Ok plan.now }
-    ensures value { result ≡ step_of terms.now plan.now (O.entries seen.now) [] state.now event.now }
-    ensures ticked { IfOk result (λ _. steps.new ≡ steps.old + 1) }
-    ensures unticked { IfErr result (λ _. steps.new ≡ steps.old) }
-{
-    match &terms.kind {
-        Kind::PAM(_) => act_loan::step(terms, plan, state, event, seen, steps),
-        _ => unreachable!(),
-    }
-}
-
-/// The currency of each payoff.
-fn currency_of(terms: &Terms) -> u32
-    requires { type_of terms.now.kind ≡ ContractType.PAM }
-    ensures { (event : Event) → result ≡ currency_of terms.now [] event }
-{
-    match &terms.kind {
-        Kind::PAM(_) => own_currency(&terms.common),
-        _ => unreachable!(),
-    }
-}
-
-/// The settlement currency where it is given, and else the contract's.
-fn own_currency(common: &Common) -> u32
-    ensures { result ≡ own_currency common.now }
-{
-    common.settlement_currency.unwrap_or(common.currency)
 }
 
 /// The close of a stop.

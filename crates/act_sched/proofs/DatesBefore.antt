@@ -1,8 +1,7 @@
 -- The days of a rising sequence that are before an end.
-use Rattle.std.proofs.Common.{◌≡◌, ℕ, zero, suc, ◌+◌, ◌<◌, ◌≤◌, ℤ, ◌-ℤ◌, ◌<ℤ◌, ◌≤ℤ◌, unsigned_abs, List, [], ◌∷◌, ◌++◌, length, get_or, Option, Some, None, true, false, inl, inr, refl, sym, ap, ◌∙◌, arith, length-append, zero-add}
+use Rattle.std.proofs.Common.{◌≡◌, ℕ, zero, suc, ◌+◌, ◌<◌, ◌≤◌, ℤ, ◌-ℤ◌, ◌<ℤ◌, ◌≤ℤ◌, unsigned_abs, List, [], ◌∷◌, length, get_or, Option, Some, None, true, false, inl, inr, refl, sym, ap, arith, zero-add}
 use Rattle.std.proofs.lemmas.Bool.{cases_Bool, cases_lt}
 use Rattle.std.proofs.lemmas.Int.{ints}
-use Rattle.std.proofs.lemmas.List.{get_or_append_left, get_or_push, same_lists}
 use Rattle.std.proofs.lemmas.Option.{cond_some, none-some, same_Some}
 use Rattle.std.specs.Prelude.{int_lt}
 use Rattle.act_date.specs.Civil.{IsDay}
@@ -10,45 +9,22 @@ use Rattle.act_date.specs.declared.cycle.Cycle.{Cycle}
 use Rattle.act_date.specs.declared.cycle.MonthRule.{MonthRule}
 use Rattle.act_sched.specs.Schedule.{cycle_date, dates_before, days_from, if_before}
 use Rattle.act_sched.proofs.CycleDates.{cycle_date-rises}
-use Rattle.act_sched.proofs.Rising.{far}
+use Rattle.act_sched.proofs.Rising.{Rises, before, far}
 
 -- ---- what such a list is
 
--- xs are the first days of the sequence, and before the end
-pub record Begins (days : ℕ → Option ℤ) (end : ℤ) (xs : List ℤ) : Type 0 where
-  pub at : (i : ℕ) (x : ℤ) → i < length xs → (days i ≡ Some (get_or xs i x)) × (get_or xs i x <ℤ end)
-
--- and all those before it: the next isn't
+-- xs are the days of the sequence before the end: the next isn't
 pub record AreBefore (days : ℕ → Option ℤ) (end : ℤ) (xs : List ℤ) : Type 0 where
-  pub begins : Begins days end xs
+  pub at : (i : ℕ) (x : ℤ) → i < length xs → (days i ≡ Some (get_or xs i x)) × (get_or xs i x <ℤ end)
   pub next : (x : ℤ) → days (length xs) ≡ Some x → end ≤ℤ x
 
-pub begins-nil : (days : ℕ → Option ℤ) (end : ℤ) → Begins days end []
-begins-nil days end = record { at = λ i x lt. absurd (omega arith) }
-
-pub begins-push : (days : ℕ → Option ℤ) (end : ℤ) (xs : List ℤ) (d : ℤ) → Begins days end xs → days (length xs) ≡ Some d → d <ℤ end → Begins days end (xs ++ d ∷ [])
-begins-push days end xs d some is early =
-    record {
-      at = λ i x lt. elim (cases_lt i (length xs)) [
-        | inl old ↦ let same = get_or_append_left xs (d ∷ []) x i old in rw same (some.at i x old)
-        | inr le ↦
-            let here : length xs ≡ i = omega (arith, length-append xs (d ∷ [])) in
-            let same = get_or_push xs d x i here in
-            rw same (rw here at is, early)
-      ];
-    }
-
-pub shorter : (days : ℕ → Option ℤ) (end : ℤ) (xs ys : List ℤ) → Begins days end xs → AreBefore days end ys → length xs ≤ length ys
-shorter days end xs ys some all =
-    elim (cases_lt (length ys) (length xs)) [
-      | inl lt ↦ let more = some.at (length ys) end lt in let late = all.next _ more.0 in absurd (omega (arith, ints))
-      | inr le ↦ le
+-- nor is a later one
+pub late : {days : ℕ → Option ℤ} {start end : ℤ} {xs : List ℤ} → Rises days start → AreBefore days end xs → (k : ℕ) (x : ℤ) → length xs ≤ k → days k ≡ Some x → end ≤ℤ x
+late {days} {start} {end} {xs} up all k x le is =
+    elim (cases_lt (length xs) k) [
+      | inl lt ↦ let first = before up (length xs) k x lt is in let low = all.next first.0 first.1 in omega (arith, ints)
+      | inr ge ↦ let here : k ≡ length xs = omega arith in all.next x (rw here at is)
     ]
-
-pub same : (days : ℕ → Option ℤ) (end : ℤ) (xs ys : List ℤ) → AreBefore days end xs → AreBefore days end ys → xs ≡ ys
-same days end xs ys all all₂ =
-    let lengths : length xs ≡ length ys = omega (arith, shorter days end xs ys all.begins all₂, shorter days end ys xs all₂.begins all) in
-    same_lists xs ys lengths (λ k d lt. same_Some _ _ (sym (all.begins.at k d lt).0 ∙ (all₂.begins.at k d (omega arith)).0))
 
 -- ---- the definition gives it
 
@@ -68,7 +44,7 @@ if_before-none end (Some d) x e is =
       | inr fails ↦ let same : d ≡ x = same_Some d x is in omega (arith, ints)
     ]
 
-if_before-late : (end : ℤ) (day : Option ℤ) → ((x : ℤ) → day ≡ Some x → end ≤ℤ x) → if_before end day ≡ None
+pub if_before-late : (end : ℤ) (day : Option ℤ) → ((x : ℤ) → day ≡ Some x → end ≤ℤ x) → if_before end day ≡ None
 if_before-late end None late = refl
 if_before-late end (Some d) late =
     let from : end ≤ℤ d = late d refl in
@@ -112,6 +88,6 @@ dates_before-are anchor cycle end rule h some =
     let none : 0 + n ≡ n = omega arith in
     let all = days_from-follows (λ k. if_before end (days k)) n 0 (rw none (if_before-late end (days n) late)) in
     record {
-      begins = record { at = λ i x lt. let here : 0 + i ≡ i = omega arith in if_before-some end _ _ (rw here at (all.at i x lt)) };
+      at = λ i x lt. let here : 0 + i ≡ i = omega arith in if_before-some end _ _ (rw here at (all.at i x lt));
       next = λ x is. if_before-none end _ x (rw zero-add at all.next) is;
     }

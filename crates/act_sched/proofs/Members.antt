@@ -17,9 +17,9 @@ use Rattle.act_date.specs.declared.cycle.Cycle.{Cycle}
 use Rattle.act_date.specs.declared.cycle.MonthRule.{MonthRule}
 use Rattle.act_date.specs.declared.cycle.Stub.{Stub}
 use Rattle.act_date.specs.declared.cycle.Stub.TheVariants.{Long, Short}
-use Rattle.act_sched.specs.Schedule.{IsCycleDate, IsEarlierDate, IsLeftOut, IsScheduleDate, cycle_date, dates_before, earlier_dates, is_long_stub, schedule_dates}
+use Rattle.act_sched.specs.Schedule.{IsCycleDate, IsEarlierDate, IsLeftOut, IsScheduleDate, LeadsOn, cycle_date, dates_before, earlier_dates, is_long_stub, schedule_dates}
 use Rattle.act_sched.proofs.CycleDates.{cycle_date-rises}
-use Rattle.act_sched.proofs.DatesBefore.{AreBefore, dates_before-are}
+use Rattle.act_sched.proofs.DatesBefore.{AreBefore, dates_before-are, late}
 use Rattle.act_sched.proofs.Rising.{Rises, before}
 
 -- ---- lists and stubs
@@ -38,13 +38,13 @@ only : (x d : ℤ) → Contains (x ∷ []) d → x ≡ d
 only x d (zero, lt, same) = same
 only x d (suc k, lt, same) = absurd (omega arith)
 
-stub_parts : (stub : Stub) (next : Option ℤ) (end : ℤ) → is_long_stub stub next end ≡ true → (stub ≡ Long) × (next ≡ Some end → ⊥)
+pub stub_parts : (stub : Stub) (next : Option ℤ) (end : ℤ) → is_long_stub stub next end ≡ true → (stub ≡ Long) × (next ≡ Some end → ⊥)
 stub_parts Short next end holds = cc
 stub_parts Long None end holds = (refl, λ is. none-some end is)
 stub_parts Long (Some day) end holds =
     (refl, λ is. let same = (Decides-int_eq day end).1 (same_Some day end is) in both_ways true (sym (rw same at holds)) refl)
 
-stub_from : (stub : Stub) (next : Option ℤ) (end : ℤ) → stub ≡ Long → (next ≡ Some end → ⊥) → is_long_stub stub next end ≡ true
+pub stub_from : (stub : Stub) (next : Option ℤ) (end : ℤ) → stub ≡ Long → (next ≡ Some end → ⊥) → is_long_stub stub next end ≡ true
 stub_from Short next end long other = cc
 stub_from Long None end long other = refl
 stub_from Long (Some day) end long other =
@@ -56,11 +56,11 @@ stub_from Long (Some day) end long other =
 -- ---- the dates before the end
 
 -- which they are, that they ascend, and that they are before it
-record AreEarlier (anchor : ℤ) (cycle : Option Cycle) (end : ℤ) (rule : MonthRule) (xs : List ℤ) : Type 0 where
-  from : (day : ℤ) → Contains xs day → IsEarlierDate anchor cycle end rule day
-  into : (day : ℤ) → IsEarlierDate anchor cycle end rule day → (day ≡ end) ⊎ Contains xs day
-  ascending : Ascends xs
-  early : (k : ℕ) (d : ℤ) → k < length xs → get_or xs k d <ℤ end
+pub record AreEarlier (anchor : ℤ) (cycle : Option Cycle) (end : ℤ) (rule : MonthRule) (xs : List ℤ) : Type 0 where
+  pub from : (day : ℤ) → Contains xs day → IsEarlierDate anchor cycle end rule day
+  pub into : (day : ℤ) → IsEarlierDate anchor cycle end rule day → (day ≡ end) ⊎ Contains xs day
+  pub ascending : Ascends xs
+  pub early : (k : ℕ) (d : ℤ) → k < length xs → get_or xs k d <ℤ end
 
 anchor_is_earlier : (anchor end : ℤ) (rule : MonthRule) → anchor ≤ℤ end → (early : Bool) → int_lt anchor end ≡ early → AreEarlier anchor None end rule (if early then anchor ∷ [] else [])
 anchor_is_earlier anchor end rule le true is =
@@ -90,19 +90,12 @@ module _ (anchor : ℤ) (cycle : Cycle) (end : ℤ) (rule : MonthRule) (xs : Lis
   -- a date before the end is among them
   place : (k : ℕ) (day : ℤ) → cycle_date anchor cycle rule k ≡ Some day → day <ℤ end → k < length xs
   place k day is early =
-      elim (cases_order (length xs) k) [
-        | inr (inr lt) ↦ lt
-        | inl here ↦ let late = all.next day (rw here is) in absurd (omega (arith, ints))
-        | inr (inl lt) ↦
-            let first = before up (length xs) k day lt is in
-            let late = all.next first.0 first.1 in
-            absurd (omega (arith, ints))
-      ]
+      elim (cases_lt k (length xs)) [ inl lt ↦ lt | inr le ↦ let from = late up all k day le is in absurd (omega (arith, ints)) ]
 
   ascends : Ascends xs
   ascends = λ i j d lt inside.
-      let later = all.begins.at j d inside in
-      let sooner = all.begins.at i d (omega arith) in
+      let later = all.at j d inside in
+      let sooner = all.at i d (omega arith) in
       let first = before up i j _ lt later.0 in
       let same : first.0 ≡ get_or xs i d = same_Some _ _ (sym first.1 ∙ sooner.0) in
       rw (← same) first.2
@@ -110,13 +103,13 @@ module _ (anchor : ℤ) (cycle : Cycle) (end : ℤ) (rule : MonthRule) (xs : Lis
   front_has : (m k : ℕ) (day : ℤ) → k < m → cycle_date anchor cycle rule k ≡ Some day → day <ℤ end → Contains (take m xs) day
   front_has m k day lt is early =
       let inside = place k day is early in
-      (k, omega (arith, length-take m xs), get_or-take m xs k day lt ∙ same_Some _ _ (sym (all.begins.at k day inside).0 ∙ is))
+      (k, omega (arith, length-take m xs), get_or-take m xs k day lt ∙ same_Some _ _ (sym (all.at k day inside).0 ∙ is))
 
   in_front : (m : ℕ) (day : ℤ) → Contains (take m xs) day → IsInFront anchor cycle end rule m day
   in_front m day (k, inside, same) =
       let short = length-take m xs in
       let low : k < m = omega arith in
-      let at = all.begins.at k day (omega arith) in
+      let at = all.at k day (omega arith) in
       let value : get_or xs k day ≡ day = sym (get_or-take m xs k day low) ∙ same in
       record { k = k; low = low; is = at.0 ∙ ap Some value; early = rw value at at.1 }
 
@@ -130,7 +123,7 @@ module _ (anchor : ℤ) (cycle : Cycle) (end : ℤ) (rule : MonthRule) (xs : Lis
             let late = all.next first.0 first.1 in
             absurd (omega (arith, ints))
         | inr (inr lt) ↦
-            let at = all.begins.at k end lt in
+            let at = all.at k end lt in
             let same : get_or xs k end ≡ end = same_Some _ _ (sym at.0 ∙ is) in
             let early : get_or xs k end <ℤ end = at.1 in
             absurd (omega (arith, ints))
@@ -149,7 +142,7 @@ module _ (anchor : ℤ) (cycle : Cycle) (end : ℤ) (rule : MonthRule) (xs : Lis
   stays day found out =
       elim (cases_lt 1 (length xs)) [
         | inl many ↦
-            let last = all.begins.at (length xs - 1) day (omega arith) in
+            let last = all.at (length xs - 1) day (omega arith) in
             let most = out.greatest _ (length xs - 1, last.0) last.1 in
             let this = before up found.k (length xs - 1) _ (omega (arith, found.low)) last.0 in
             let same : this.0 ≡ day = same_Some _ _ (sym this.1 ∙ found.is) in
@@ -204,10 +197,10 @@ module _ (anchor : ℤ) (cycle : Cycle) (end : ℤ) (rule : MonthRule) (xs : Lis
         from = λ day. (same day).0;
         into = λ day date. inr ((same day).1 date);
         ascending = ascends;
-        early = λ k d lt. (all.begins.at k d lt).1;
+        early = λ k d lt. (all.at k d lt).1;
       }
 
-are_earlier : (anchor : ℤ) (cycle : Option Cycle) (end : ℤ) (rule : MonthRule) → IsDay anchor → ForSome cycle (λ c. 1 ≤ c.count) → anchor ≤ℤ end → AreEarlier anchor cycle end rule (earlier_dates anchor cycle end rule)
+pub are_earlier : (anchor : ℤ) (cycle : Option Cycle) (end : ℤ) (rule : MonthRule) → IsDay anchor → LeadsOn cycle → anchor ≤ℤ end → AreEarlier anchor cycle end rule (earlier_dates anchor cycle end rule)
 are_earlier anchor None end rule h some le = anchor_is_earlier anchor end rule le (int_lt anchor end) refl
 are_earlier anchor (Some cycle) end rule h some le =
     cycle_is_earlier anchor cycle end rule (dates_before anchor cycle end rule) (cycle_date-rises anchor cycle rule h (some cycle refl)) (dates_before-are anchor cycle end rule h (some cycle refl)) _ refl
@@ -224,21 +217,23 @@ members_to anchor cycle end rule xs all le day =
       ],
     )
 
-pub members : (anchor : ℤ) (cycle : Option Cycle) (end : ℤ) (rule : MonthRule) → IsDay anchor → ForSome cycle (λ c. 1 ≤ c.count) → (day : ℤ) → Contains (schedule_dates (Some anchor) cycle end rule) day ↔ IsScheduleDate (Some anchor) cycle end rule day
+pub members : (anchor : Option ℤ) (cycle : Option Cycle) (end : ℤ) (rule : MonthRule) → ForSome anchor IsDay → LeadsOn cycle → (day : ℤ) → Contains (schedule_dates anchor cycle end rule) day ↔ IsScheduleDate anchor cycle end rule day
 unfolding schedule_dates
-members anchor cycle end rule h some day =
+members None cycle end rule h some day = (λ among. absurd (omega (arith, among.1)), λ date. absurd date)
+members (Some anchor) cycle end rule h some day =
     elim (cases_Bool (int_le anchor end)) [
-      | inl is ↦ let le : anchor ≤ℤ end = omega (arith, ints) in rw is (members_to anchor cycle end rule _ (are_earlier anchor cycle end rule h some le) le day)
+      | inl is ↦ let le : anchor ≤ℤ end = omega (arith, ints) in rw is (members_to anchor cycle end rule _ (are_earlier anchor cycle end rule (h anchor refl) some le) le day)
       | inr late ↦ rw late (λ among. absurd (omega (arith, among.1)), λ date. absurd (let le = date.0 in omega (arith, ints)))
     ]
 
-pub ascending : (anchor : ℤ) (cycle : Option Cycle) (end : ℤ) (rule : MonthRule) → IsDay anchor → ForSome cycle (λ c. 1 ≤ c.count) → Ascends (schedule_dates (Some anchor) cycle end rule)
+pub ascending : (anchor : Option ℤ) (cycle : Option Cycle) (end : ℤ) (rule : MonthRule) → ForSome anchor IsDay → LeadsOn cycle → Ascends (schedule_dates anchor cycle end rule)
 unfolding schedule_dates
-ascending anchor cycle end rule h some =
+ascending None cycle end rule h some = λ i j d lt inside. absurd (omega arith)
+ascending (Some anchor) cycle end rule h some =
     elim (cases_Bool (int_le anchor end)) [
       | inl is ↦
           let le : anchor ≤ℤ end = omega (arith, ints) in
-          let all = are_earlier anchor cycle end rule h some le in
+          let all = are_earlier anchor cycle end rule (h anchor refl) some le in
           rw is (all_pairs_push (λ earlier later. earlier <ℤ later) (earlier_dates anchor cycle end rule) end all.ascending all.early)
       | inr late ↦ rw late (λ i j d lt inside. absurd (omega arith))
     ]

@@ -1,7 +1,8 @@
 -- Schedules: the dates that a cycle leads to from an anchor, up to an end. ACTUS schedules; the edges are this profile's own.
-use Rattle.std.specs.Prelude.{◌≡◌, ℕ, zero, suc, ◌-◌, ◌<◌, max, ◌&&◌, not, if◌then◌else◌, Bool, true, false, ℤ, ◌-ℤ◌, ◌<ℤ◌, ◌≤ℤ◌, unsigned_abs, int_le, int_lt, List, [], ◌∷◌, ◌++◌, length, take, Option, Some, None, ◌⊎◌}
-use Rattle.std.specs.List.{filter}
-use Rattle.std.specs.Option.{option_map}
+use Rattle.std.specs.Prelude.{◌≡◌, ℕ, zero, suc, ◌-◌, ◌<◌, ◌≤◌, max, ◌&&◌, not, if◌then◌else◌, Bool, true, false, ℤ, ◌-ℤ◌, ◌<ℤ◌, ◌≤ℤ◌, unsigned_abs, int_le, int_lt, List, [], ◌∷◌, ◌++◌, length, take, Option, Some, None, ◌⊎◌}
+use Rattle.std.specs.Int.{int_max}
+use Rattle.std.specs.List.{filter, fold}
+use Rattle.std.specs.Option.{ForSome, option_map}
 use Rattle.std.specs.Ordering.{int_eq}
 use Rattle.act_date.specs.Civil.{month_end_of}
 use Rattle.act_date.specs.Cycle.{plus_cycles}
@@ -12,8 +13,13 @@ use Rattle.act_date.specs.declared.cycle.Stub.{Stub}
 use Rattle.act_date.specs.declared.cycle.Stub.TheVariants.{Long, Short}
 use Rattle.act_date.specs.declared.cycle.Unit.{Unit}
 use Rattle.act_date.specs.declared.cycle.Unit.TheVariants as unit
+use Rattle.act_sched.specs.declared.schedule.Schedule.{Schedule}
 
 -- ---- the dates of a cycle
+
+-- a cycle, where it is given, leads on: its period has at least one unit
+abbrev pub LeadsOn : Option Cycle → Type 0
+LeadsOn cycle = ForSome cycle (λ c. 1 ≤ c.count)
 
 -- the unit is a number of months
 abbrev pub is_in_months : Unit → Bool
@@ -75,10 +81,22 @@ unfoldable pub schedule_dates : Option ℤ → Option Cycle → ℤ → MonthRul
 schedule_dates None cycle end rule = []
 schedule_dates (Some anchor) cycle end rule = if int_le anchor end then earlier_dates anchor cycle end rule ++ end ∷ [] else []
 
+-- the same of what the dates follow from
+abbrev pub dates_of : Schedule → List ℤ
+dates_of s = schedule_dates s.anchor s.cycle s.end s.rule
+
 -- the dates after a day, where one is given
 abbrev pub later_dates : Option ℤ → List ℤ → List ℤ
 later_dates None dates = dates
 later_dates (Some day) dates = filter (λ d. int_lt day d) dates
+
+-- the latest of a first day and of those dates that aren't after a day and, where another is given, are after that
+abbrev pub latest_in : ℤ → Option ℤ → ℤ → List ℤ → ℤ
+latest_in until after first dates = fold int_max first (filter (λ d. int_le d until) (later_dates after dates))
+
+-- the dates but for a day
+abbrev pub dates_but_for : ℤ → List ℤ → List ℤ
+dates_but_for day dates = filter (λ d. not (int_eq d day)) dates
 
 -- ---- which days are dates of a schedule
 

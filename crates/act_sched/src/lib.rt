@@ -1,6 +1,7 @@
 //! Schedules: the dates on which something recurs, up to an end.
 #![tactic(auto)]
 
+mod cycle_dates;
 mod schedule;
 
-pub use schedule::{SchedFault, dates, dates_after};
+pub use schedule::{SchedFault, Schedule, dates, dates_after};

@@ -1,11 +1,12 @@
-//! The dates of a schedule.
-ghost use Rattle.std.specs.Prelude.{◌≡◌, ◌<◌, ◌≤◌, ◌↔◌, ℤ, int_lt, ◌<ℤ◌, ◌≤ℤ◌, [], ◌∷◌, ◌++◌, length, if◌then◌else◌, IfOk, IfErr};
-ghost use Rattle.std.specs.List.{AllPairs, Contains, filter};
+//! Schedules and their dates, as a list or one by one.
+ghost use Rattle.std.specs.Prelude.{◌≡◌, ◌<◌, ◌≤◌, ◌↔◌, ℤ, ◌<ℤ◌, ◌≤ℤ◌, [], ◌∷◌, ◌++◌, length, slice_get, if◌then◌else◌, Some, None, IfOk, IsSomeAnd, IsTrue};
+ghost use Rattle.std.specs.List.{AllPairs, Contains};
 ghost use Rattle.std.specs.Option.{ForSome};
-ghost use Rattle.act_sched.specs.Schedule.{IsScheduleDate, cycle_date, dates_before, earlier_dates, later_dates, is_in_months, is_long_stub, keeps_month_ends, schedule_dates};
+ghost use Rattle.act_sched.specs.Schedule.{IsScheduleDate, LeadsOn, dates_before, earlier_dates, if_before, later_dates, latest_in, schedule_dates};
 ghost use Rattle.act_sched.specs.declared.schedule.SchedFault.TheVariants.{NoMemory};
 
-use act_date::{Cycle, Day, MonthRule, Stub, Unit, add_cycles, month_end};
+use crate::cycle_dates::cycle_date;
+use act_date::{Cycle, Day, MonthRule, Stub};
 use std::alloc::{AllocFailed, Global};
 
 /// Why there is no list of a schedule's dates.
@@ -25,17 +26,29 @@ impl<T: Drop> From<AllocFailed<T>> for SchedFault {
     }
 }
 
-/// The most dates that a schedule may have.
-const MOST_DATES: u32 = 4_096;
+/// The most dates that a list may have.
+const MOST_DATES: usize = 4_096;
 
 /// The days from 1900 to 2299, of which all dates are.
 const MOST_DAYS: u32 = 146_097;
 
-/// The dates of a schedule, ascending, each day once. With no anchor, or one after the end, there are none,
-/// and with no cycle they are the anchor and the end. Else they are the dates of the cycle before the end,
-/// and the end. The dates of the cycle are counted from the anchor and moved by the rule; the end isn't
-/// moved. Where the end is no date of the cycle, a long stub leaves out the last of those before it, unless
-/// that is the anchor.
+/// What the dates of a schedule follow from. With no anchor, or one after the end, there are none, and with no
+/// cycle they are the anchor and the end. Else they are the dates of the cycle before the end, and the end. The
+/// dates of the cycle are counted from the anchor and moved by the rule; the end isn't moved. Where the end is no
+/// date of the cycle, a long stub leaves out the last of those before it, unless that is the anchor.
+#[derive(Clone, Copy)]
+pub struct Schedule {
+    /// The first date. Without one there are no dates.
+    pub anchor: Option<Day>,
+    /// The time between dates.
+    pub cycle: Option<Cycle>,
+    /// The last date.
+    pub end: Day,
+    /// Which day of the month the dates fall on.
+    pub rule: MonthRule,
+}
+
+/// The dates of a schedule (`Schedule`), ascending, each day once.
 ///
 /// `TooManyDates` comes exactly where there are more than 4,096 dates, unless memory runs out first.
 pub fn dates(
@@ -54,7 +67,13 @@ pub fn dates(
         4096 < length (schedule_dates anchor cycle end rule) }
     ensures within_limit { IfOk result (λ dates. length dates.items ≤ 4096) }
 {
-    limited_dates(alloc, anchor, cycle, end, rule, MOST_DATES)
+    Schedule {
+        anchor,
+        cycle,
+        end,
+        rule,
+    }
+    .dates_after(alloc, None)
 }
 
 /// The dates of a schedule after a day, ascending, each day once; all of them where no day is given.
@@ -75,209 +94,203 @@ pub fn dates_after(
         4096 < length (later_dates after (schedule_dates anchor cycle end rule)) }
     ensures within_limit { IfOk result (λ dates. length dates.items ≤ 4096) }
 {
-    let Some(after) = after else {
-        return limited_dates(alloc, anchor, cycle, end, rule, MOST_DATES);
-    };
-    let mut dates = all_dates(alloc, anchor, cycle, end, rule)?;
-    keep_after(&mut dates, after);
-    if dates.len() > MOST_DATES as usize {
-        return Err(SchedFault::TooManyDates);
+    Schedule {
+        anchor,
+        cycle,
+        end,
+        rule,
     }
-    Ok(dates)
+    .dates_after(alloc, after)
 }
 
-/// Keeps the dates after a day.
-fn keep_after(dates: &mut Vec<Day>, day: Day)
-    ensures { dates.new.items ≡ filter (λ d. int_lt day d) dates.old.items }
-{
-    dates.retain(|date| day < *date);
-}
+impl Schedule {
+    ghost use Rattle.act_sched.specs.Schedule.{dates_but_for, dates_of};
 
-/// The dates of a schedule, however many there are.
-fn all_dates(
-    alloc: Global,
-    anchor: Option<Day>,
-    cycle: Option<Cycle>,
-    end: Day,
-    rule: MonthRule,
-) -> Result<Vec<Day>, SchedFault>
-    requires { ForSome cycle (λ c. 1 ≤ c.count) }
-    ensures list { IfOk result (λ dates. dates.items ≡ schedule_dates anchor cycle end rule) }
-    ensures no_memory { IfErr result (λ fault. fault ≡ NoMemory) }
-{
-    limited_dates(alloc, anchor, cycle, end, rule, MOST_DAYS)
-}
-
-/// The dates of a schedule, where there are no more than a limit.
-#[tactic(auto, unfolding(crate::specs::Schedule::schedule_dates))]
-fn limited_dates(
-    alloc: Global,
-    anchor: Option<Day>,
-    cycle: Option<Cycle>,
-    end: Day,
-    rule: MonthRule,
-    limit: u32,
-) -> Result<Vec<Day>, SchedFault>
-    requires some { ForSome cycle (λ c. 1 ≤ c.count) }
-    requires within { limit ≤ 146_097 }
-    ensures list { IfOk result (λ dates. dates.items ≡ schedule_dates anchor cycle end rule) }
-    ensures members { IfOk result (λ dates. (day : ℤ) →
-        Contains dates.items day ↔ IsScheduleDate anchor cycle end rule day) }
-    ensures ascending { IfOk result (λ dates. AllPairs (λ earlier later. earlier <ℤ later) dates.items) }
-    ensures too_many { result ≡ Err SchedFault.TooManyDates →
-        limit < length (schedule_dates anchor cycle end rule) }
-    ensures within_limit { IfOk result (λ dates. length dates.items ≤ limit) }
-    ensures few { length (schedule_dates anchor cycle end rule) ≤ 146_097 }
-{
-    match anchor {
-        Some(anchor) if anchor <= end => dates_from(alloc, anchor, cycle, end, rule, limit),
-        _ => Ok(Vec::new(alloc)),
-    }
-}
-
-/// The dates from an anchor that isn't after the end.
-fn dates_from(
-    alloc: Global,
-    anchor: Day,
-    cycle: Option<Cycle>,
-    end: Day,
-    rule: MonthRule,
-    limit: u32,
-) -> Result<Vec<Day>, SchedFault>
-    requires some { ForSome cycle (λ c. 1 ≤ c.count) }
-    requires within { limit ≤ 146_097 }
-    ensures list { IfOk result (λ dates. dates.items ≡ earlier_dates anchor cycle end rule ++ end ∷ []) }
-    ensures too_many { result ≡ Err SchedFault.TooManyDates →
-        limit ≤ length (earlier_dates anchor cycle end rule) }
-    ensures within_limit { IfOk result (λ dates. length dates.items ≤ limit) }
-{
-    let mut dates = earlier_dates(alloc, anchor, cycle, end, rule, limit)?;
-    if dates.len() >= limit as usize {
-        return Err(SchedFault::TooManyDates);
-    }
-    dates.push(end)?;
-    Ok(dates)
-}
-
-/// The dates before the end.
-fn earlier_dates(
-    alloc: Global,
-    anchor: Day,
-    cycle: Option<Cycle>,
-    end: Day,
-    rule: MonthRule,
-    limit: u32,
-) -> Result<Vec<Day>, SchedFault>
-    requires some { ForSome cycle (λ c. 1 ≤ c.count) }
-    requires within { limit ≤ 146_097 }
-    ensures list { IfOk result (λ dates. dates.items ≡ earlier_dates anchor cycle end rule) }
-    ensures too_many { result ≡ Err SchedFault.TooManyDates →
-        limit ≤ length (earlier_dates anchor cycle end rule) }
-{
-    match cycle {
-        Some(cycle) => cycle_dates(alloc, anchor, cycle, end, rule, limit),
-        None => anchor_before(alloc, anchor, end),
-    }
-}
-
-/// The anchor, where it is before the end.
-fn anchor_before(alloc: Global, anchor: Day, end: Day) -> Result<Vec<Day>, SchedFault>
-    ensures list { IfOk result (λ dates. dates.items ≡ (if int_lt anchor end then anchor ∷ [] else [])) }
-    ensures no_memory { IfErr result (λ fault. fault ≡ NoMemory) }
-{
-    let mut dates = Vec::new(alloc);
-    if anchor < end {
-        dates.push(anchor)?;
-    }
-    Ok(dates)
-}
-
-/// The dates of the cycle before the end. A long stub leaves out the last of them, unless it is the first.
-fn cycle_dates(
-    alloc: Global,
-    anchor: Day,
-    cycle: Cycle,
-    end: Day,
-    rule: MonthRule,
-    limit: u32,
-) -> Result<Vec<Day>, SchedFault>
-    requires some { 1 ≤ cycle.count }
-    requires within { limit ≤ 146_097 }
-    ensures list { IfOk result (λ dates. dates.items ≡ earlier_dates anchor (Some cycle) end rule) }
-    ensures too_many { result ≡ Err SchedFault.TooManyDates →
-        limit ≤ length (earlier_dates anchor (Some cycle) end rule) }
-{
-    let mut dates = dates_before(alloc, anchor, cycle, end, rule, limit)?;
-    let next = cycle_date(anchor, cycle, rule, dates.len() as u32);
-    if dates.len() > 1 && is_long_stub(cycle.stub, next, end) {
-        dates.pop();
-    }
-    Ok(dates)
-}
-
-/// The dates of the cycle before the end.
-fn dates_before(
-    alloc: Global,
-    anchor: Day,
-    cycle: Cycle,
-    end: Day,
-    rule: MonthRule,
-    limit: u32,
-) -> Result<Vec<Day>, SchedFault>
-    requires some { 1 ≤ cycle.count }
-    requires within { limit ≤ 146_097 }
-    ensures list { IfOk result (λ dates. dates.items ≡ dates_before anchor cycle end rule) }
-    ensures too_many { result ≡ Err SchedFault.TooManyDates →
-        limit < length (dates_before anchor cycle end rule) }
-    ensures within_limit { IfOk result (λ dates. length dates.items ≤ limit) }
-{
-    let mut dates = Vec::new(alloc);
-    // One more than the limit is too many: a long stub leaves out one of them, and the end comes on top.
-    'cycles: for k in 0..limit + 1 {
-        match cycle_date(anchor, cycle, rule, k) {
-            Some(date) if date < end => dates.push(date)?,
-            _ => return Ok(dates),
+    /// The schedule of one day alone.
+    pub fn of_day(day: Day) -> Schedule
+        ensures dates { dates_of result ≡ day ∷ [] }
+        ensures cycle { result.cycle ≡ None }
+    {
+        Schedule {
+            anchor: Some(day),
+            cycle: None,
+            end: day,
+            rule: MonthRule::Sd,
         }
     }
-    Err(SchedFault::TooManyDates)
+
+    /// The dates after a day, ascending, each day once; all of them where no day is given.
+    ///
+    /// `TooManyDates` comes exactly where there are more than 4,096 of these, unless memory runs out first: those
+    /// that aren't after the day don't count.
+    pub fn dates_after(self, alloc: Global, after: Option<Day>) -> Result<Vec<Day>, SchedFault>
+        requires { LeadsOn self.cycle }
+        ensures list { IfOk result (λ dates. dates.items ≡ later_dates after (dates_of self)) }
+        ensures too_many { result ≡ Err SchedFault.TooManyDates →
+            4096 < length (later_dates after (dates_of self)) }
+        ensures within_limit { IfOk result (λ dates. length dates.items ≤ 4096) }
+    {
+        let mut dates = Vec::new(alloc);
+        'dates: for place in 0..MOST_DAYS {
+            match self.date_at(place) {
+                Some(date) => push_after(&mut dates, &after, date)?,
+                None => return Ok(dates),
+            }
+        }
+        Ok(dates)
+    }
+
+    /// The latest of a first day and of those dates that aren't after a day and, where another is given, are after
+    /// that. It takes no memory.
+    pub fn latest(self, after: Option<Day>, until: Day, first: Day) -> Day
+        requires { LeadsOn self.cycle }
+        ensures { result ≡ latest_in until after first (dates_of self) }
+    {
+        let mut latest = first;
+        'dates: for place in 0..MOST_DAYS {
+            match self.date_at(place) {
+                Some(date) => latest = later_date(latest, &after, until, date),
+                None => return latest,
+            }
+        }
+        latest
+    }
+
+    /// How many dates there are before the end. It takes no memory.
+    pub fn count_before_end(self) -> u32
+        requires { LeadsOn self.cycle }
+        ensures count { result ≡ length (dates_but_for self.end (dates_of self)) }
+        ensures few { result ≤ 146_096 }
+    {
+        'dates: for count in 0..MOST_DAYS - 1 {
+            if self.date_at(count + 1).is_none() {
+                return count;
+            }
+        }
+        MOST_DAYS - 1
+    }
+
+    /// The date at a place from 0, or None past the last.
+    #[tactic(auto, unfolding(crate::specs::Schedule::schedule_dates))]
+    fn date_at(&self, place: u32) -> Option<Day>
+        requires cycle { LeadsOn self.now.cycle }
+        requires place { place ≤ 146_096 }
+        ensures { result ≡ slice_get (dates_of self.now) place }
+    {
+        match self.anchor {
+            Some(anchor) if anchor <= self.end => self.date_from(anchor, place),
+            _ => None,
+        }
+    }
+
+    /// The date at a place, with an anchor that isn't after the end.
+    #[tactic(auto, using(crate::proofs::ByPlace::inside, crate::proofs::ByPlace::behind, crate::proofs::ByPlace::past_one_more, crate::proofs::ByPlace::outside))]
+    fn date_from(&self, anchor: Day, place: u32) -> Option<Day>
+        requires cycle { LeadsOn self.now.cycle }
+        requires place { place ≤ 146_096 }
+        ensures { result
+            ≡ slice_get (earlier_dates anchor self.now.cycle self.now.end self.now.rule ++ self.now.end ∷ []) place }
+    {
+        if let Some(date) = self.earlier_date(anchor, place) {
+            return Some(date);
+        }
+        if place > 0 && self.earlier_date(anchor, place - 1).is_none() {
+            return None;
+        }
+        Some(self.end)
+    }
+
+    /// The date at a place among those before the end.
+    fn earlier_date(&self, anchor: Day, place: u32) -> Option<Day>
+        requires cycle { LeadsOn self.now.cycle }
+        requires place { place ≤ 146_096 }
+        ensures { result ≡ slice_get (earlier_dates anchor self.now.cycle self.now.end self.now.rule) place }
+    {
+        match self.cycle {
+            Some(cycle) => self.cycle_date_kept(anchor, cycle, place),
+            None => (place == 0 && anchor < self.end).then_some(anchor),
+        }
+    }
+
+    /// The date of the cycle at a place, where it is before the end and isn't left out by a long stub.
+    fn cycle_date_kept(&self, anchor: Day, cycle: Cycle, place: u32) -> Option<Day>
+        requires cycle { 1 ≤ cycle.count }
+        requires place { place ≤ 146_096 }
+        ensures { result ≡ slice_get (earlier_dates anchor (Some cycle) self.now.end self.now.rule) place }
+    {
+        let date = self.cycle_date_before(anchor, cycle, place)?;
+        if place == 0 || cycle.stub == Stub::Short {
+            return Some(date);
+        }
+        // A long stub leaves out the last, where the date that comes next is past the end.
+        let next = cycle_date(anchor, cycle, self.rule, place + 1);
+        if is_up_to(self.end, next) {
+            Some(date)
+        } else {
+            None
+        }
+    }
+
+    /// The date of the cycle at a place, where it is before the end.
+    fn cycle_date_before(&self, anchor: Day, cycle: Cycle, place: u32) -> Option<Day>
+        requires { 1 ≤ cycle.count }
+        ensures { result ≡ slice_get (dates_before anchor cycle self.now.end self.now.rule) place }
+    {
+        if_before(self.end, cycle_date(anchor, cycle, self.rule, place))
+    }
 }
 
-/// The day so many cycles after the anchor, moved by the rule, or None past 2299.
-#[tactic(auto, unfolding(crate::specs::Schedule::cycle_date))]
-fn cycle_date(anchor: Day, cycle: Cycle, rule: MonthRule, k: u32) -> Option<Day>
-    ensures { result ≡ cycle_date anchor cycle rule k }
+/// Adds a date, where it is after a day, unless there are as many as there may be.
+fn push_after(dates: &mut Vec<Day>, after: &Option<Day>, date: Day) -> Result<(), SchedFault>
+    ensures added { IfOk result (λ _. dates.new.items ≡ dates.old.items ++ later_dates after.now (date ∷ [])) }
+    ensures too_many { result ≡ Err SchedFault.TooManyDates →
+        4096 < length (dates.old.items ++ later_dates after.now (date ∷ [])) }
+    ensures within_limit { IfOk result (λ _. length dates.old.items ≤ 4096 → length dates.new.items ≤ 4096) }
 {
-    let date = add_cycles(anchor, cycle, k)?;
-    if keeps_month_ends(rule, anchor, cycle.unit) {
-        Some(month_end(date))
+    if !is_after(date, after) {
+        return Ok(());
+    }
+    if dates.len() >= MOST_DATES {
+        return Err(SchedFault::TooManyDates);
+    }
+    dates.push(date)?;
+    Ok(())
+}
+
+/// The later of a day and a date, where the date isn't after a day and, where another is given, is after that.
+fn later_date(latest: Day, after: &Option<Day>, until: Day, date: Day) -> Day
+    ensures { result ≡ latest_in until after.now latest (date ∷ []) }
+{
+    if is_after(date, after) && date <= until {
+        latest.max(date)
     } else {
-        Some(date)
+        latest
     }
 }
 
-/// Whether the dates move to the last days of their months.
-fn keeps_month_ends(rule: MonthRule, anchor: Day, unit: Unit) -> bool
-    ensures { result ≡ keeps_month_ends rule anchor unit }
+/// Whether a date is after a day, where one is given.
+fn is_after(date: Day, after: &Option<Day>) -> bool
+    ensures { later_dates after.now (date ∷ []) ≡ (if result then date ∷ [] else []) }
 {
-    match rule {
-        MonthRule::Sd => false,
-        MonthRule::Eom => is_in_months(unit) && month_end(anchor) == anchor,
+    match *after {
+        Some(day) => day < date,
+        None => true,
     }
 }
 
-/// Whether the unit is a number of months.
-fn is_in_months(unit: Unit) -> bool
-    ensures { result ≡ is_in_months unit }
+/// The day, where it is before the end.
+fn if_before(end: Day, day: Option<Day>) -> Option<Day>
+    ensures { result ≡ if_before end day }
 {
-    match unit {
-        Unit::D | Unit::W => false,
-        Unit::M | Unit::Q | Unit::H | Unit::Y => true,
-    }
+    day.filter(|day| *day < end)
 }
 
-/// Whether the last period is a long stub, by the cycle's date that comes after those before the end.
-fn is_long_stub(stub: Stub, next: Option<Day>, end: Day) -> bool
-    ensures { result ≡ is_long_stub stub next end }
+/// Whether there is a day, and it isn't after the end.
+fn is_up_to(end: Day, day: Option<Day>) -> bool
+    ensures { IsTrue result ↔ IsSomeAnd day (λ day. day ≤ℤ end) }
 {
-    stub == Stub::Long && next != Some(end)
+    match day {
+        Some(day) => day <= end,
+        None => false,
+    }
 }

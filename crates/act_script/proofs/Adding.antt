@@ -12,7 +12,8 @@ use Rattle.act_model.specs.declared.observed.Obs.{Obs}
 use Rattle.act_model.specs.declared.observed.Obs.TheVariants as obs
 use Rattle.act_model.specs.declared.terms.Terms.{Terms}
 use Rattle.act_script.specs.Reading.{AddsCodes}
-use Rattle.act_script.specs.Step.{entries_with, is_append, names_with, step_of}
+use Rattle.act_script.specs.Step.{entries_with, names_with, step_of}
+use Rattle.act_model.specs.Journal.{is_append}
 use Rattle.act_script.specs.declared.fault.ScriptFault.{ScriptFault}
 use Rattle.act_script.specs.declared.fault.ScriptFault.TheVariants.{TooManyEntries}
 use Rattle.act_script.specs.declared.form.Form.{Form}

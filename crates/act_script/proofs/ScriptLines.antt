@@ -1,5 +1,5 @@
 -- A script, read line by line.
-use Rattle.std.proofs.Common.{◌≡◌, ℕ, ◌+◌, ◌==◌, Bool, true, false, not, cond, if◌then◌else◌, List, [], ◌∷◌, length, Option, None, Ok, Err, Bor, refl, ap}
+use Rattle.std.proofs.Common.{◌≡◌, ℕ, ◌+◌, ◌<◌, ◌≤◌, ◌==◌, Bool, true, false, not, cond, if◌then◌else◌, List, [], ◌∷◌, length, Option, Some, None, IfSome, Ok, Err, Bor, refl, ap, arith}
 use Rattle.std.specs.List.{enumerate_from, filter, slice_split}
 use Rattle.std.specs.Option.{option_map_or}
 use Rattle.act_model.specs.declared.terms.Terms.{Terms}
@@ -18,6 +18,10 @@ lines_left number parts = filter (λ line. not (is_blank line.1)) (enumerate_fro
 -- how many lines can be left at most
 abbrev pub bytes_left : Option (Bor (List ℕ)) → ℕ
 bytes_left rest = option_map_or (λ text. length text.now + 1) rest 0
+
+pub fewer_left : (rest : Option (Bor (List ℕ))) (bytes : ℕ) → IfSome rest (λ behind. length behind.now < bytes) → bytes_left rest ≤ bytes
+fewer_left None bytes fewer = omega arith
+fewer_left (Some behind) bytes fewer = omega (arith, fewer)
 
 module _ (kinds : List Terms) (script : Script) (number : ℕ) (text : List ℕ) (lines : List (ℕ × List ℕ)) where
   by_blank : (blank : Bool) (longer : Script) → (if blank then Ok script else with_line kinds script number text) ≡ Ok longer

@@ -19,7 +19,8 @@ use Rattle.act_script.specs.Form.{form_of}
 use Rattle.act_script.specs.Lines.{lines_of}
 use Rattle.act_script.specs.Reading.{Script, script_of, with_line, with_lines}
 use Rattle.act_script.specs.Results.{result_and_then}
-use Rattle.act_script.specs.Step.{appends_entry, entries_with, event_step, fits_contract, is_append, is_known, names_with, step_of}
+use Rattle.act_script.specs.Step.{entries_with, event_step, fits_contract, names_with, step_of}
+use Rattle.act_model.specs.Journal.{appends_entry, is_append, is_known}
 use Rattle.act_script.specs.declared.fault.ScriptFault.{ScriptFault}
 use Rattle.act_script.specs.declared.fault.ScriptFault.TheVariants.{EventUnfit, NotLine, UnknownName}
 use Rattle.act_script.specs.declared.form.Form.{Form}

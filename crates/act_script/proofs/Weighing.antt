@@ -8,13 +8,9 @@ use Rattle.act_model.specs.declared.journal.Line.{Line}
 use Rattle.act_script.specs.Asks.{AsksBelow, line_lists}
 use Rattle.act_script.specs.Spending.{overweight_behind}
 use Rattle.act_script.specs.Weight.{WeighedAsk, overweight, total_weight}
+use Rattle.act_model.proofs.Lists.{behind}
 
 -- ---- the first ask past the limit
-
--- what stands behind a front
-behind : {X : Type 0} (front back : List X) (x : X) → slice_get (front ++ x ∷ back) (length front) ≡ Some x
-behind [] back x = refl
-behind (y ∷ front) back x = behind front back x
 
 -- the script and the line of the ask at a place
 abbrev told : List WeighedAsk → Option ℕ → Option (ℕ × ℕ)

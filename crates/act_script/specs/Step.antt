@@ -1,8 +1,8 @@
 -- The step of a line among given contracts and names. This profile's own.
-use Rattle.std.specs.Prelude.{ℕ, ℤ, pos, ◌+◌, ◌&&◌, nat_lt, int_le, if◌then◌else◌, Bool, true, false, List, length, slice_get, Result, Ok, Err}
+use Rattle.std.specs.Prelude.{ℕ, ℤ, pos, ◌+◌, ◌&&◌, nat_lt, int_le, if◌then◌else◌, Bool, true, false, List, slice_get, Result, Ok, Err}
 use Rattle.std.specs.Option.{ok_or, option_map_or}
+use Rattle.act_model.specs.Limits.{most_entries}
 use Rattle.act_model.specs.Names.{NameLists, number_of, place_of, with_name}
-use Rattle.act_model.specs.Observed.{is_entry}
 use Rattle.act_model.specs.declared.choice.ExerciseType.{ExerciseType}
 use Rattle.act_model.specs.declared.choice.ExerciseType.TheVariants.{E, A, B}
 use Rattle.act_model.specs.declared.journal.Asked.TheVariants.{All, One}
@@ -81,24 +81,7 @@ names_with (Event contract kind day value) names = names
 names_with AskAll names = names
 names_with (AskOne contract) names = names
 
--- how many entries all scripts have once a step is counted, or TooManyEntries where it would be one above 1,048,576
+-- how many entries all scripts have once a step is counted, or TooManyEntries where there are the most there may be already
 unfoldable pub entries_with : ℕ → ℕ → Step → Result ℕ ScriptFault
-entries_with number entries (Append entry) = if nat_lt entries 1_048_576 then Ok (entries + 1) else Err (TooManyEntries number)
+entries_with number entries (Append entry) = if nat_lt entries most_entries then Ok (entries + 1) else Err (TooManyEntries number)
 entries_with number entries (Ask asked) = Ok entries
-
--- a step that appends an entry
-abbrev pub is_append : Step → Bool
-is_append (Append entry) = true
-is_append (Ask asked) = false
-
--- what a step appends is an entry of a book: the value of a credit event is 0
-abbrev pub appends_entry : Step → Bool
-appends_entry (Append entry) = is_entry entry
-appends_entry (Ask asked) = true
-
--- the code or the contract that a step names is one of the names
-abbrev pub is_known : NameLists → Step → Bool
-is_known names (Append (obs.Rate code day value)) = nat_lt code (length names.codes)
-is_known names (Append (obs.Event contract kind day value)) = nat_lt contract (length names.contracts)
-is_known names (Ask All) = true
-is_known names (Ask (One contract)) = nat_lt contract (length names.contracts)

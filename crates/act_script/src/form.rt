@@ -1,8 +1,8 @@
 //! What a line says.
-ghost use Rattle.std.specs.Prelude.{◌≡◌, ◌≢◌, true, Err, option_map};
+ghost use Rattle.std.specs.Prelude.{◌≡◌, ◌≢◌, true, Err, codes, option_and_then, option_map, string_bytes};
 ghost use Rattle.std.specs.Result.{result_ok};
 ghost use Rattle.serde_json.specs.View.{view};
-ghost use Rattle.act_json.specs.Fields.{word_field};
+ghost use Rattle.act_json.specs.Fields.{day_field, decimal_field, field_of, word_field};
 ghost use Rattle.act_model.specs.Name.{is_name};
 ghost use Rattle.act_script.specs.Form.{ask_form, credit_kind, event_form, form_of, given, happening, named_form, only_member, rate_form};
 
@@ -106,9 +106,24 @@ fn rate_form(alloc: Global, rate: &Value) -> Result<Form, JsonFault>
     ensures { result ≢ Err JsonFault.NoMemory → result_ok result ≡ rate_form (view rate.now) }
 {
     let code = name_field(alloc, rate, "code")?;
-    let day = required(day(rate, "date")?)?;
-    let value = required(decimal(rate, "value")?)?;
-    Ok(Form::Rate { code, day, value })
+    match dated_value(rate) {
+        Ok((day, value)) => Ok(Form::Rate { code, day, value }),
+        Err(fault) => {
+            drop(code);
+            Err(fault)
+        }
+    }
+}
+
+/// The day and the value of a rate.
+fn dated_value(rate: &Value) -> Result<(Day, Fixed), JsonFault>
+    ensures { result_ok result ≡ option_and_then
+        (λ day. option_map (λ value. (day, value)) (given (decimal_field (codes "value") (view rate.now))))
+        (given (day_field (codes "date") (view rate.now))) }
+{
+    let day = day_given(rate)?;
+    let value = value_given(rate)?;
+    Ok((day, value))
 }
 
 /// An event.
@@ -117,15 +132,32 @@ fn event_form(alloc: Global, event: &Value) -> Result<Form, JsonFault>
     ensures { result ≢ Err JsonFault.NoMemory → result_ok result ≡ event_form (view event.now) }
 {
     let contract = name_field(alloc, event, "contract")?;
-    let day = required(day(event, "date")?)?;
-    let event_type = required(text(alloc, event, "type")?)?;
-    let (kind, value) = happening(alloc, event_type.as_str(), event)?;
-    Ok(Form::Event {
-        contract,
-        kind,
-        day,
-        value,
-    })
+    match dated_happening(alloc, event) {
+        Ok((day, (kind, value))) => Ok(Form::Event {
+            contract,
+            kind,
+            day,
+            value,
+        }),
+        Err(fault) => {
+            drop(contract);
+            Err(fault)
+        }
+    }
+}
+
+/// The day of an event, and what happened.
+fn dated_happening(alloc: Global, event: &Value) -> Result<(Day, (ObsKind, Fixed)), JsonFault>
+    ensures { result ≢ Err JsonFault.NoMemory → result_ok result ≡ option_and_then
+        (λ day. option_map (λ what. (day, what)) (option_and_then (λ type. happening type (view event.now))
+        (given (field_of (codes "type") (view event.now)))))
+        (given (day_field (codes "date") (view event.now))) }
+{
+    let day = day_given(event)?;
+    let event_type = text_given(alloc, event, "type")?;
+    let what = happening(alloc, event_type.as_str(), event);
+    drop(event_type);
+    Ok((day, what?))
 }
 
 /// The kind and the value of an event, by its type.
@@ -134,15 +166,23 @@ fn happening(alloc: Global, event_type: &str, event: &Value) -> Result<(ObsKind,
     ensures { result ≢ Err JsonFault.NoMemory → result_ok result ≡ happening event_type.now (view event.now) }
 {
     match event_type {
-        "PP" => Ok((ObsKind::PP, required(decimal(event, "value")?)?)),
-        "DV" => Ok((ObsKind::DV, required(decimal(event, "value")?)?)),
+        "PP" => Ok((ObsKind::PP, value_given(event)?)),
+        "DV" => Ok((ObsKind::DV, value_given(event)?)),
         "XD" => Ok((ObsKind::XD, decimal(event, "value")?.unwrap_or(Fixed::ZERO))),
-        "CE" => {
-            let kind = required(text(alloc, event, "value")?)?;
-            Ok((credit_kind(kind.as_str())?, Fixed::ZERO))
-        }
+        "CE" => Ok((credit_event(alloc, event)?, Fixed::ZERO)),
         _ => Err(JsonFault::BadValue),
     }
+}
+
+/// Which credit event it is, by its value.
+fn credit_event(alloc: Global, event: &Value) -> Result<ObsKind, JsonFault>
+    ensures { result ≢ Err JsonFault.NoMemory
+        → result_ok result ≡ option_and_then credit_kind (given (field_of (codes "value") (view event.now))) }
+{
+    let name = text_given(alloc, event, "value")?;
+    let kind = credit_kind(name.as_str());
+    drop(name);
+    kind
 }
 
 /// The kind of a credit event, by its name.
@@ -177,6 +217,28 @@ fn ask_form(alloc: Global, ask: &Value) -> Result<Form, JsonFault>
         Ok(text) => Ok(Form::AskOne(Name { text })),
         Err(_) => Err(JsonFault::NoMemory),
     }
+}
+
+/// The day of a line, which has to give one.
+fn day_given(line: &Value) -> Result<Day, JsonFault>
+    ensures { result_ok result ≡ given (day_field (codes "date") (view line.now)) }
+{
+    required(day(line, "date")?)
+}
+
+/// The value of a line, which has to give one.
+fn value_given(line: &Value) -> Result<Fixed, JsonFault>
+    ensures { result_ok result ≡ given (decimal_field (codes "value") (view line.now)) }
+{
+    required(decimal(line, "value")?)
+}
+
+/// The text that a field has to give.
+fn text_given(alloc: Global, line: &Value, field: &str) -> Result<String, JsonFault>
+    ensures { result ≢ Err JsonFault.NoMemory
+        → option_map string_bytes (result_ok result) ≡ given (field_of field.now (view line.now)) }
+{
+    required(text(alloc, line, field)?)
 }
 
 /// The name that a field has to give.

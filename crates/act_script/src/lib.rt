@@ -9,6 +9,5 @@ mod step;
 mod weight;
 
 pub use fault::ScriptFault;
-pub use reading::{MOST_SCRIPT, read_script};
-pub use step::MOST_ENTRIES;
+pub use reading::read_script;
 pub use weight::{All, MOST_WEIGHT, weigh};

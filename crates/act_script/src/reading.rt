@@ -3,20 +3,17 @@ ghost use Rattle.std.specs.Prelude.{◌≡◌, ◌≢◌, ◌^◌, ◌+◌, ◌<
 ghost use Rattle.std.specs.List.{All};
 ghost use Rattle.std.specs.Option.{ok_or};
 ghost use Rattle.act_script.specs.Form.{form_of};
-ghost use Rattle.act_script.specs.Step.{appends_entry, is_append, is_known};
+ghost use Rattle.act_model.specs.Journal.{appends_entry, is_append, is_known};
 ghost use Rattle.act_script.specs.Reading.{AddsCodes, script_of, with_text};
 ghost use Rattle.act_script.specs.declared.fault.ScriptFault.TheVariants.{NotLine};
 
 use crate::ScriptFault;
 use crate::form::{Form, read_form};
 use crate::lines::{first_line, is_blank};
-use crate::step::{MOST_ENTRIES, entries_with, step};
+use crate::step::{entries_with, step};
 use act_json::JsonFault;
-use act_model::{Line, Names, Terms};
+use act_model::{Line, MOST_BYTES, MOST_ENTRIES, Names, Terms};
 use std::alloc::Global;
-
-/// The most bytes of a script.
-pub const MOST_SCRIPT: usize = 67_108_864;
 
 /// The lines read so far, and how many entries all scripts have then.
 #[derive(Drop)]
@@ -41,7 +38,7 @@ pub fn read_script(
     kinds: &[Terms],
     entries: &mut u64,
 ) -> Result<Vec<Line>, ScriptFault>
-    requires size { length bytes.now ≤ MOST_SCRIPT }
+    requires size { length bytes.now ≤ MOST_BYTES }
     requires entries { entries.old ≤ MOST_ENTRIES }
     requires codes { length names.old.codes < 2 ^ 30 }
     ensures script { IfOk result (λ lines. script_of bytes.now names.old kinds.now entries.old

@@ -1,14 +1,12 @@
 //! The step of a line.
 ghost use Rattle.std.specs.Prelude.{◌≡◌, ◌≢◌, ◌^◌, ◌<◌, Err, length, IfOk, IfErr};
-ghost use Rattle.act_script.specs.Step.{contract_of, entries_with, fits, fits_contract, is_early_option, is_loan, is_stock, names_with, step_of};
+ghost use Rattle.act_script.specs.Step.{contract_of, entries_with, event_step, fits, fits_contract, is_early_option, is_loan, is_stock, names_with, step_of};
 
 use crate::ScriptFault;
 use crate::form::Form;
-use act_model::{Asked, ExerciseType, Kind, Names, Obs, ObsKind, Step, Terms};
+use act_date::Day;
+use act_model::{Asked, ExerciseType, Kind, MOST_ENTRIES, Names, Obs, ObsKind, Step, Terms};
 use act_num::Fixed;
-
-/// The most entries of all scripts.
-pub const MOST_ENTRIES: u64 = 1_048_576;
 
 /// The step of the line of that number, whose code is then one of the names. UnknownName and EventUnfit by the
 /// contract of an event or an ask.
@@ -26,8 +24,13 @@ pub(crate) fn step(
 {
     match form {
         Form::Rate { code, day, value } => {
-            let code = names.intern_code(code.as_str())?;
-            Ok(Step::Append(Obs::Rate { code, day, value }))
+            let place = names.intern_code(code.as_str());
+            drop(code);
+            Ok(Step::Append(Obs::Rate {
+                code: place?,
+                day,
+                value,
+            }))
         }
         Form::Event {
             contract,
@@ -35,22 +38,39 @@ pub(crate) fn step(
             day,
             value,
         } => {
-            let contract = named_contract(contract.as_str(), number, names)?;
-            if !fits_contract(contract, kind, value, kinds) {
-                return Err(ScriptFault::EventUnfit(number));
-            }
-            Ok(Step::Append(Obs::Event {
-                contract,
-                kind,
-                day,
-                value,
-            }))
+            let place = named_contract(contract.as_str(), number, names);
+            drop(contract);
+            event_step(place?, kind, day, value, number, kinds)
         }
         Form::AskAll => Ok(Step::Ask(Asked::All)),
         Form::AskOne(contract) => {
-            let contract = named_contract(contract.as_str(), number, names)?;
-            Ok(Step::Ask(Asked::One(contract)))
+            let place = named_contract(contract.as_str(), number, names);
+            drop(contract);
+            Ok(Step::Ask(Asked::One(place?)))
         }
+    }
+}
+
+/// The step of an event of the contract of that number, or EventUnfit.
+fn event_step(
+    contract: u32,
+    kind: ObsKind,
+    day: Day,
+    value: Fixed,
+    number: u32,
+    kinds: &[Terms],
+) -> Result<Step, ScriptFault>
+    ensures { result ≡ event_step kinds.now number kind day value contract }
+{
+    if fits_contract(contract, kind, value, kinds) {
+        Ok(Step::Append(Obs::Event {
+            contract,
+            kind,
+            day,
+            value,
+        }))
+    } else {
+        Err(ScriptFault::EventUnfit(number))
     }
 }
 

@@ -11,8 +11,6 @@ use Rattle.act_date.specs.declared.day_count.DayCount.{DayCount}
 use Rattle.act_date.specs.declared.day_count.DayCount.TheVariants as count
 use Rattle.act_model.specs.declared.choice.ContractRole.{ContractRole}
 use Rattle.act_model.specs.declared.choice.ContractRole.TheVariants as role
-use Rattle.act_model.specs.declared.choice.ContractType.{ContractType}
-use Rattle.act_model.specs.declared.choice.ContractType.TheVariants as type
 use Rattle.act_model.specs.declared.choice.FeeBasis.{FeeBasis}
 use Rattle.act_model.specs.declared.choice.FeeBasis.TheVariants as basis
 use Rattle.act_model.specs.declared.choice.PenaltyType.{PenaltyType}
@@ -23,11 +21,6 @@ use Rattle.act_model.specs.declared.choice.ScalingEffect.{ScalingEffect}
 abbrev pub among : {A : Type 0} → List (List ℕ × A) → List ℕ → Option A
 among [] text = None
 among (choice ∷ choices) text = if bytes_eq text choice.0 then Some choice.1 else among choices text
-
--- contractType
-unfoldable pub type_named : List ℕ → Option ContractType
-type_named text = among ((codes "PAM", type.PAM) ∷ (codes "LAM", type.LAM) ∷ (codes "NAM", type.NAM) ∷ (codes "ANN", type.ANN) ∷ (codes "STK", type.STK) ∷ (codes "FXOUT", type.FXOUT) ∷ (codes "SWPPV", type.SWPPV)
-    ∷ (codes "SWAPS", type.SWAPS) ∷ (codes "CAPFL", type.CAPFL) ∷ (codes "OPTNS", type.OPTNS) ∷ (codes "FUTUR", type.FUTUR) ∷ (codes "CEG", type.CEG) ∷ (codes "CEC", type.CEC) ∷ []) text
 
 -- contractRole
 unfoldable pub role_named : List ℕ → Option ContractRole

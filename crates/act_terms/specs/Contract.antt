@@ -6,7 +6,7 @@ use Rattle.act_model.specs.declared.choice.ContractType.{ContractType}
 use Rattle.act_model.specs.declared.choice.ContractType.TheVariants as type
 use Rattle.act_model.specs.declared.terms.Kind.TheVariants as kind
 use Rattle.act_model.specs.declared.terms.Terms.{Terms}
-use Rattle.act_terms.specs.Choices.{type_named}
+use Rattle.act_model.specs.Kind.{type_named}
 use Rattle.act_terms.specs.Common.{common_of}
 use Rattle.act_terms.specs.Fault.{◌>>=◌, no_object, refused}
 use Rattle.act_terms.specs.Fields.{needed}

@@ -1,7 +1,6 @@
 pub mod Choices
 pub mod Common
 pub mod Contract
-pub mod Cycles
 pub mod Fault
 pub mod Fields
 pub mod Loan

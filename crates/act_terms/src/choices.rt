@@ -1,138 +1,91 @@
 //! The texts that a choice may have.
-ghost use Rattle.std.specs.Prelude.{◌≡◌, ◌≢◌, ◌||◌, ◌==◌, Err, Some, codes};
+ghost use Rattle.std.specs.Prelude.{◌≡◌, ℕ, ◌||◌, ◌==◌, List, Option, Some, map};
 ghost use Rattle.std.specs.Option.{ok_or};
 ghost use Rattle.serde_json.specs.View.{view};
 ghost use Rattle.act_json.specs.Results.{result_map};
-ghost use Rattle.act_terms.specs.Choices.{calendar_named, convention_named, day_count_named, fee_basis_named, is_none, month_rule_named, penalty_type_named, role_named, scaling_effect_named, type_named};
+ghost use Rattle.act_terms.specs.Choices.{among, calendar_named, convention_named, day_count_named, fee_basis_named, is_none, month_rule_named, penalty_type_named, role_named, scaling_effect_named};
 ghost use Rattle.act_terms.specs.Fields.{choice_field};
 
 use act_date::{Calendar, Convention, DayCount, MonthRule};
-use act_json::{JsonFault, text};
-use act_model::{ContractRole, ContractType, FeeBasis, PenaltyType, ScalingEffect};
+use act_json::{JsonFault, text_in};
+use act_model::{ContractRole, FeeBasis, PenaltyType, ScalingEffect};
 use serde_json::Value;
-use std::alloc::Global;
 
-/// The contract type of that name.
-#[tactic(auto, unfolding(crate::specs::Choices::type_named))]
-pub(crate) fn type_named(text: &str) -> Option<ContractType>
-    ensures { result ≡ type_named text.now }
-{
-    match text {
-        "PAM" => Some(ContractType::PAM),
-        "LAM" => Some(ContractType::LAM),
-        "NAM" => Some(ContractType::NAM),
-        "ANN" => Some(ContractType::ANN),
-        "STK" => Some(ContractType::STK),
-        "FXOUT" => Some(ContractType::FXOUT),
-        "SWPPV" => Some(ContractType::SWPPV),
-        "SWAPS" => Some(ContractType::SWAPS),
-        "CAPFL" => Some(ContractType::CAPFL),
-        "OPTNS" => Some(ContractType::OPTNS),
-        "FUTUR" => Some(ContractType::FUTUR),
-        "CEG" => Some(ContractType::CEG),
-        "CEC" => Some(ContractType::CEC),
-        _ => None,
-    }
+/// The roles of a contract's owner, by their names.
+const ROLES: [(&str, ContractRole); 13] = [
+    ("RPA", ContractRole::RPA),
+    ("RFL", ContractRole::RFL),
+    ("RF", ContractRole::RF),
+    ("BUY", ContractRole::BUY),
+    ("LG", ContractRole::LG),
+    ("OBL", ContractRole::OBL),
+    ("COL", ContractRole::COL),
+    ("RPL", ContractRole::RPL),
+    ("PFL", ContractRole::PFL),
+    ("PF", ContractRole::PF),
+    ("SEL", ContractRole::SEL),
+    ("ST", ContractRole::ST),
+    ("GUA", ContractRole::GUA),
+];
+
+/// The calendars, by their names.
+const CALENDARS: [(&str, Calendar); 2] = [("NC", Calendar::Nc), ("MF", Calendar::Mf)];
+
+/// The conventions of business days, by their names; `NULL` is no shift.
+const CONVENTIONS: [(&str, Convention); 10] = [
+    ("NOS", Convention::Nos),
+    ("NULL", Convention::Nos),
+    ("SCF", Convention::Scf),
+    ("SCMF", Convention::Scmf),
+    ("CSF", Convention::Csf),
+    ("CSMF", Convention::Csmf),
+    ("SCP", Convention::Scp),
+    ("SCMP", Convention::Scmp),
+    ("CSP", Convention::Csp),
+    ("CSMP", Convention::Csmp),
+];
+
+/// The rules for the ends of months, by their names.
+const MONTH_RULES: [(&str, MonthRule); 2] = [("SD", MonthRule::Sd), ("EOM", MonthRule::Eom)];
+
+/// The day counts, by their names.
+const DAY_COUNTS: [(&str, DayCount); 6] = [
+    ("AA", DayCount::Aa),
+    ("A360", DayCount::A360),
+    ("A365", DayCount::A365),
+    ("30E360", DayCount::E30),
+    ("30E360ISDA", DayCount::E30Isda),
+    ("B252", DayCount::B252),
+];
+
+/// The bases of fees, by their names.
+const FEE_BASES: [(&str, FeeBasis); 2] = [("A", FeeBasis::A), ("N", FeeBasis::N)];
+
+/// The types of penalties, by their names.
+const PENALTY_TYPES: [(&str, PenaltyType); 4] = [
+    ("O", PenaltyType::O),
+    ("A", PenaltyType::A),
+    ("N", PenaltyType::N),
+    ("I", PenaltyType::I),
+];
+
+/// A choice among the texts that a term may have.
+pub(crate) trait Choice: Copy {
+    /// The choice that a text names.
+    ghost named: { List ℕ → Option Self };
+
+    /// The choice that a text names, or None.
+    fn named(text: &str) -> Option<Self>
+        ensures { result ≡ named text.now };
 }
 
-/// The role of a contract's owner.
+/// The choice that a term gives. BadValue where its text names none.
 #[tactic(auto, unfolding(crate::specs::Fields::choice_field))]
-pub(crate) fn role(alloc: Global, contract: &Value) -> Result<Option<ContractRole>, JsonFault>
-    ensures { result ≢ Err JsonFault.NoMemory
-        → result ≡ choice_field role_named (codes "contractRole") (view contract.now) }
+pub(crate) fn choice_in<T: Choice>(contract: &Value, term: &str) -> Result<Option<T>, JsonFault>
+    ensures { result ≡ choice_field T.named term.now (view contract.now) }
 {
-    match text(alloc, contract, "contractRole")? {
-        Some(text) => chosen(role_named(text.as_str())),
-        None => Ok(None),
-    }
-}
-
-/// The calendar of business days.
-#[tactic(auto, unfolding(crate::specs::Fields::choice_field))]
-pub(crate) fn calendar(alloc: Global, contract: &Value) -> Result<Option<Calendar>, JsonFault>
-    ensures { result ≢ Err JsonFault.NoMemory
-        → result ≡ choice_field calendar_named (codes "calendar") (view contract.now) }
-{
-    match text(alloc, contract, "calendar")? {
-        Some(text) => chosen(calendar_named(text.as_str())),
-        None => Ok(None),
-    }
-}
-
-/// How dates that aren't business days are moved; `NULL` is no shift.
-#[tactic(auto, unfolding(crate::specs::Fields::choice_field))]
-pub(crate) fn convention(alloc: Global, contract: &Value) -> Result<Option<Convention>, JsonFault>
-    ensures { result ≢ Err JsonFault.NoMemory
-        → result ≡ choice_field convention_named (codes "businessDayConvention") (view contract.now) }
-{
-    match text(alloc, contract, "businessDayConvention")? {
-        Some(text) => chosen(convention_named(text.as_str())),
-        None => Ok(None),
-    }
-}
-
-/// How the dates of a cycle go with the ends of months.
-#[tactic(auto, unfolding(crate::specs::Fields::choice_field))]
-pub(crate) fn month_rule(alloc: Global, contract: &Value) -> Result<Option<MonthRule>, JsonFault>
-    ensures { result ≢ Err JsonFault.NoMemory
-        → result ≡ choice_field month_rule_named (codes "endOfMonthConvention") (view contract.now) }
-{
-    match text(alloc, contract, "endOfMonthConvention")? {
-        Some(text) => chosen(month_rule_named(text.as_str())),
-        None => Ok(None),
-    }
-}
-
-/// How parts of a year are counted.
-#[tactic(auto, unfolding(crate::specs::Fields::choice_field))]
-pub(crate) fn day_count(alloc: Global, contract: &Value) -> Result<Option<DayCount>, JsonFault>
-    ensures { result ≢ Err JsonFault.NoMemory
-        → result ≡ choice_field day_count_named (codes "dayCountConvention") (view contract.now) }
-{
-    match text(alloc, contract, "dayCountConvention")? {
-        Some(text) => chosen(day_count_named(text.as_str())),
-        None => Ok(None),
-    }
-}
-
-/// Whether a fee is an amount or a rate.
-#[tactic(auto, unfolding(crate::specs::Fields::choice_field))]
-pub(crate) fn fee_basis(alloc: Global, contract: &Value) -> Result<Option<FeeBasis>, JsonFault>
-    ensures { result ≢ Err JsonFault.NoMemory
-        → result ≡ choice_field fee_basis_named (codes "feeBasis") (view contract.now) }
-{
-    match text(alloc, contract, "feeBasis")? {
-        Some(text) => chosen(fee_basis_named(text.as_str())),
-        None => Ok(None),
-    }
-}
-
-/// How the penalty of a prepayment is computed.
-#[tactic(auto, unfolding(crate::specs::Fields::choice_field))]
-pub(crate) fn penalty_type(
-    alloc: Global,
-    contract: &Value,
-) -> Result<Option<PenaltyType>, JsonFault>
-    ensures { result ≢ Err JsonFault.NoMemory
-        → result ≡ choice_field penalty_type_named (codes "penaltyType") (view contract.now) }
-{
-    match text(alloc, contract, "penaltyType")? {
-        Some(text) => chosen(penalty_type_named(text.as_str())),
-        None => Ok(None),
-    }
-}
-
-/// What is scaled by an index.
-#[tactic(auto, unfolding(crate::specs::Fields::choice_field))]
-pub(crate) fn scaling_effect(
-    alloc: Global,
-    contract: &Value,
-) -> Result<Option<ScalingEffect>, JsonFault>
-    ensures { result ≢ Err JsonFault.NoMemory
-        → result ≡ choice_field scaling_effect_named (codes "scalingEffect") (view contract.now) }
-{
-    match text(alloc, contract, "scalingEffect")? {
-        Some(text) => chosen(scaling_effect_named(text.as_str())),
+    match text_in(contract, term)? {
+        Some(text) => chosen(T::named(text)),
         None => Ok(None),
     }
 }
@@ -147,129 +100,98 @@ fn chosen<T>(choice: Option<T>) -> Result<Option<T>, JsonFault>
     }
 }
 
-/// The role of that name.
-#[tactic(auto, unfolding(crate::specs::Choices::role_named))]
-fn role_named(text: &str) -> Option<ContractRole>
-    ensures { result ≡ role_named text.now }
+/// The choice of a text, by the first pair that has it.
+#[tactic(auto, using(crate::proofs::Among::passed_over, crate::proofs::Among::found, crate::proofs::Among::none_left))]
+fn among<T: Copy>(choices: &[(&str, T)], text: &str) -> Option<T>
+    ensures { result ≡ among (map (λ c. (c.0.now, c.1)) choices.now) text.now }
 {
-    match text {
-        "RPA" => Some(ContractRole::RPA),
-        "RFL" => Some(ContractRole::RFL),
-        "RF" => Some(ContractRole::RF),
-        "BUY" => Some(ContractRole::BUY),
-        "LG" => Some(ContractRole::LG),
-        "OBL" => Some(ContractRole::OBL),
-        "COL" => Some(ContractRole::COL),
-        "RPL" => Some(ContractRole::RPL),
-        "PFL" => Some(ContractRole::PFL),
-        "PF" => Some(ContractRole::PF),
-        "SEL" => Some(ContractRole::SEL),
-        "ST" => Some(ContractRole::ST),
-        "GUA" => Some(ContractRole::GUA),
-        _ => None,
+    for choice in choices {
+        if text == choice.0 {
+            return Some(choice.1);
+        }
+    }
+    None
+}
+
+impl Choice for ContractRole {
+    ghost named = { role_named };
+
+    #[tactic(auto, unfolding(crate::specs::Choices::role_named))]
+    fn named(text: &str) -> Option<ContractRole> {
+        among(&ROLES, text)
     }
 }
 
-/// The calendar of that name.
-#[tactic(auto, unfolding(crate::specs::Choices::calendar_named))]
-fn calendar_named(text: &str) -> Option<Calendar>
-    ensures { result ≡ calendar_named text.now }
-{
-    match text {
-        "NC" => Some(Calendar::Nc),
-        "MF" => Some(Calendar::Mf),
-        _ => None,
+impl Choice for Calendar {
+    ghost named = { calendar_named };
+
+    #[tactic(auto, unfolding(crate::specs::Choices::calendar_named))]
+    fn named(text: &str) -> Option<Calendar> {
+        among(&CALENDARS, text)
     }
 }
 
-/// The convention of that name.
-#[tactic(auto, unfolding(crate::specs::Choices::convention_named))]
-fn convention_named(text: &str) -> Option<Convention>
-    ensures { result ≡ convention_named text.now }
-{
-    match text {
-        "NOS" => Some(Convention::Nos),
-        "NULL" => Some(Convention::Nos),
-        "SCF" => Some(Convention::Scf),
-        "SCMF" => Some(Convention::Scmf),
-        "CSF" => Some(Convention::Csf),
-        "CSMF" => Some(Convention::Csmf),
-        "SCP" => Some(Convention::Scp),
-        "SCMP" => Some(Convention::Scmp),
-        "CSP" => Some(Convention::Csp),
-        "CSMP" => Some(Convention::Csmp),
-        _ => None,
+impl Choice for Convention {
+    ghost named = { convention_named };
+
+    #[tactic(auto, unfolding(crate::specs::Choices::convention_named))]
+    fn named(text: &str) -> Option<Convention> {
+        among(&CONVENTIONS, text)
     }
 }
 
-/// The rule of that name.
-#[tactic(auto, unfolding(crate::specs::Choices::month_rule_named))]
-fn month_rule_named(text: &str) -> Option<MonthRule>
-    ensures { result ≡ month_rule_named text.now }
-{
-    match text {
-        "SD" => Some(MonthRule::Sd),
-        "EOM" => Some(MonthRule::Eom),
-        _ => None,
+impl Choice for MonthRule {
+    ghost named = { month_rule_named };
+
+    #[tactic(auto, unfolding(crate::specs::Choices::month_rule_named))]
+    fn named(text: &str) -> Option<MonthRule> {
+        among(&MONTH_RULES, text)
     }
 }
 
-/// The day count of that name.
-#[tactic(auto, unfolding(crate::specs::Choices::day_count_named))]
-fn day_count_named(text: &str) -> Option<DayCount>
-    ensures { result ≡ day_count_named text.now }
-{
-    match text {
-        "AA" => Some(DayCount::Aa),
-        "A360" => Some(DayCount::A360),
-        "A365" => Some(DayCount::A365),
-        "30E360" => Some(DayCount::E30),
-        "30E360ISDA" => Some(DayCount::E30Isda),
-        "B252" => Some(DayCount::B252),
-        _ => None,
+impl Choice for DayCount {
+    ghost named = { day_count_named };
+
+    #[tactic(auto, unfolding(crate::specs::Choices::day_count_named))]
+    fn named(text: &str) -> Option<DayCount> {
+        among(&DAY_COUNTS, text)
     }
 }
 
-/// The basis of that name.
-#[tactic(auto, unfolding(crate::specs::Choices::fee_basis_named))]
-fn fee_basis_named(text: &str) -> Option<FeeBasis>
-    ensures { result ≡ fee_basis_named text.now }
-{
-    match text {
-        "A" => Some(FeeBasis::A),
-        "N" => Some(FeeBasis::N),
-        _ => None,
+impl Choice for FeeBasis {
+    ghost named = { fee_basis_named };
+
+    #[tactic(auto, unfolding(crate::specs::Choices::fee_basis_named))]
+    fn named(text: &str) -> Option<FeeBasis> {
+        among(&FEE_BASES, text)
     }
 }
 
-/// The type of penalty of that name.
-#[tactic(auto, unfolding(crate::specs::Choices::penalty_type_named))]
-fn penalty_type_named(text: &str) -> Option<PenaltyType>
-    ensures { result ≡ penalty_type_named text.now }
-{
-    match text {
-        "O" => Some(PenaltyType::O),
-        "A" => Some(PenaltyType::A),
-        "N" => Some(PenaltyType::N),
-        "I" => Some(PenaltyType::I),
-        _ => None,
+impl Choice for PenaltyType {
+    ghost named = { penalty_type_named };
+
+    #[tactic(auto, unfolding(crate::specs::Choices::penalty_type_named))]
+    fn named(text: &str) -> Option<PenaltyType> {
+        among(&PENALTY_TYPES, text)
     }
 }
 
 /// The effect of three letters: the first for interest, the second for the notional.
-#[tactic(auto, unfolding(crate::specs::Choices::scaling_effect_named))]
-fn scaling_effect_named(text: &str) -> Option<ScalingEffect>
-    ensures { result ≡ scaling_effect_named text.now }
-{
-    match text.as_bytes() {
-        [
-            interest @ (b'I' | b'O' | b'0'),
-            notional @ (b'N' | b'O' | b'0'),
-            b'O' | b'0',
-        ] => Some(ScalingEffect {
-            interest: *interest == b'I',
-            notional: *notional == b'N',
-        }),
-        _ => None,
+impl Choice for ScalingEffect {
+    ghost named = { scaling_effect_named };
+
+    #[tactic(auto, unfolding(crate::specs::Choices::scaling_effect_named))]
+    fn named(text: &str) -> Option<ScalingEffect> {
+        match text.as_bytes() {
+            [
+                interest @ (b'I' | b'O' | b'0'),
+                notional @ (b'N' | b'O' | b'0'),
+                b'O' | b'0',
+            ] => Some(ScalingEffect {
+                interest: *interest == b'I',
+                notional: *notional == b'N',
+            }),
+            _ => None,
+        }
     }
 }

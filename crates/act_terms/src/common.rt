@@ -4,7 +4,7 @@ ghost use Rattle.serde_json.specs.View.{view};
 ghost use Rattle.act_terms.specs.Common.{business_days_of, common_of, position_of, trades_of};
 ghost use Rattle.act_terms.specs.Names.{GrewBy, HasRoom};
 
-use crate::choices::{calendar, convention, month_rule, role};
+use crate::choices::choice_in;
 use crate::currencies::{code_where, read_currencies};
 use crate::fault::TermsFault;
 use crate::fields::{needed, needed_day, optional, optional_day, optional_decimal};
@@ -52,9 +52,9 @@ pub(crate) fn read_common(
         → common_of number names.old (view contract.now) ≡ Err fault) }
     ensures grew { OnOk result (GrewBy 2 2 names.old names.new) }
 {
-    let position = read_position(alloc, contract)?;
+    let position = read_position(contract)?;
     let money = read_currencies(alloc, contract, names)?;
-    let days = read_business_days(alloc, contract)?;
+    let days = read_business_days(contract)?;
     let market_object_code = code_where(alloc, false, "marketObjectCode", contract, names)?;
     let trades = read_trades(contract)?;
     Ok(Common {
@@ -78,23 +78,29 @@ pub(crate) fn read_common(
 
 /// The role, and the day as of which the terms are given.
 #[tactic(auto, unfolding(crate::specs::Common::position_of))]
-fn read_position(alloc: Global, contract: &Value) -> Result<Position, TermsFault>
-    ensures { result ≢ Err TermsFault.NoMemory → result ≡ position_of (view contract.now) }
+fn read_position(contract: &Value) -> Result<Position, TermsFault>
+    ensures { result ≡ position_of (view contract.now) }
 {
     Ok(Position {
-        contract_role: needed("contractRole", role(alloc, contract))?,
+        contract_role: needed("contractRole", choice_in(contract, "contractRole"))?,
         status_date: needed_day(contract, "statusDate")?,
     })
 }
 
 /// The calendar and the conventions.
 #[tactic(auto, unfolding(crate::specs::Common::business_days_of))]
-fn read_business_days(alloc: Global, contract: &Value) -> Result<BusinessDays, TermsFault>
-    ensures { result ≢ Err TermsFault.NoMemory → result ≡ business_days_of (view contract.now) }
+fn read_business_days(contract: &Value) -> Result<BusinessDays, TermsFault>
+    ensures { result ≡ business_days_of (view contract.now) }
 {
-    let calendar = optional("calendar", calendar(alloc, contract))?;
-    let convention = optional("businessDayConvention", convention(alloc, contract))?;
-    let month_rule = optional("endOfMonthConvention", month_rule(alloc, contract))?;
+    let calendar = optional("calendar", choice_in(contract, "calendar"))?;
+    let convention = optional(
+        "businessDayConvention",
+        choice_in(contract, "businessDayConvention"),
+    )?;
+    let month_rule = optional(
+        "endOfMonthConvention",
+        choice_in(contract, "endOfMonthConvention"),
+    )?;
     Ok(BusinessDays {
         calendar: calendar.unwrap_or(Calendar::Nc),
         business_day_convention: convention.unwrap_or(Convention::Nos),

@@ -2,19 +2,17 @@
 ghost use Rattle.std.specs.Prelude.{◌≡◌, ◌≢◌, Ok, Err, IfOk, IfErr, OnOk, codes, true, false};
 ghost use Rattle.std.specs.Str.{bytes_eq};
 ghost use Rattle.serde_json.specs.View.{view};
-ghost use Rattle.act_loan.specs.Cycles.{HasCycles};
+ghost use Rattle.act_profile.specs.Built.{IsBuilt};
 ghost use Rattle.act_model.specs.Name.{is_name};
-ghost use Rattle.act_profile.specs.Contract.{type_of};
 ghost use Rattle.act_terms.specs.Contract.{contract_of, contract_type, named_terms_of, pam_terms_of, terms_of};
 ghost use Rattle.act_terms.specs.Names.{GrewBy, HasRoom};
 
-use crate::choices::type_named;
 use crate::common::read_common;
 use crate::currencies::contract_id;
 use crate::fault::{TermCause, TermsFault, refused};
 use crate::fields::needed;
 use crate::loan::read_pam;
-use act_json::text;
+use act_json::text_in;
 use act_model::{ContractType, Kind, Names, Terms};
 use serde_json::Value;
 use std::alloc::Global;
@@ -60,8 +58,7 @@ pub fn read_contract(
         → contract_of number names.old (view contract.now) ≡ Err fault) }
     ensures name { IfOk result (λ named. is_name named.id ≡ true) }
     ensures no_star { IfOk result (λ named. bytes_eq named.id (codes "*") ≡ false) }
-    ensures kind { IfOk result (λ named. type_of named.terms.kind ≡ ContractType.PAM) }
-    ensures cycles { IfOk result (λ named. HasCycles named.terms) }
+    ensures built { IfOk result (λ named. IsBuilt named.terms.kind) }
     ensures grew { OnOk result (GrewBy 4 2 names.old names.new) }
 {
     if !contract.is_object() {
@@ -84,23 +81,22 @@ fn read_named_terms(
         → named_terms_of number names.old (view contract.now) ≡ Err fault) }
     ensures name { IfOk result (λ named. is_name named.id ≡ true) }
     ensures no_star { IfOk result (λ named. bytes_eq named.id (codes "*") ≡ false) }
-    ensures kind { IfOk result (λ named. type_of named.terms.kind ≡ ContractType.PAM) }
-    ensures cycles { IfOk result (λ named. HasCycles named.terms) }
+    ensures built { IfOk result (λ named. IsBuilt named.terms.kind) }
     ensures grew { OnOk result (GrewBy 4 2 names.old names.new) }
 {
     let id = contract_id(alloc, contract)?;
-    let contract_type = contract_type(alloc, contract)?;
+    let contract_type = contract_type(contract)?;
     let terms = read_terms(alloc, contract_type, contract, number, names)?;
     Ok(NamedTerms { id, terms })
 }
 
 /// The type of a contract.
 #[tactic(auto, unfolding(crate::specs::Contract::contract_type))]
-fn contract_type(alloc: Global, contract: &Value) -> Result<ContractType, TermsFault>
-    ensures { result ≢ Err TermsFault.NoMemory → result ≡ contract_type (view contract.now) }
+fn contract_type(contract: &Value) -> Result<ContractType, TermsFault>
+    ensures { result ≡ contract_type (view contract.now) }
 {
-    let text = needed("contractType", text(alloc, contract, "contractType"))?;
-    match type_named(text.as_str()) {
+    let text = needed("contractType", text_in(contract, "contractType"))?;
+    match ContractType::named(text) {
         Some(contract_type) => Ok(contract_type),
         None => Err(refused(TermCause::UnknownKind, "contractType")),
     }
@@ -119,8 +115,7 @@ fn read_terms(
     ensures read { IfOk result (λ terms. terms_of contract_type number names.old (view contract.now) ≡ Ok (terms, names.new)) }
     ensures refused { IfErr result (λ fault. fault ≢ TermsFault.NoMemory
         → terms_of contract_type number names.old (view contract.now) ≡ Err fault) }
-    ensures kind { IfOk result (λ terms. type_of terms.kind ≡ ContractType.PAM) }
-    ensures cycles { IfOk result (λ terms. HasCycles terms) }
+    ensures built { IfOk result (λ terms. IsBuilt terms.kind) }
     ensures grew { OnOk result (GrewBy 4 2 names.old names.new) }
 {
     match contract_type {
@@ -141,8 +136,7 @@ fn read_pam_terms(
     ensures read { IfOk result (λ terms. pam_terms_of number names.old (view contract.now) ≡ Ok (terms, names.new)) }
     ensures refused { IfErr result (λ fault. fault ≢ TermsFault.NoMemory
         → pam_terms_of number names.old (view contract.now) ≡ Err fault) }
-    ensures kind { IfOk result (λ terms. type_of terms.kind ≡ ContractType.PAM) }
-    ensures cycles { IfOk result (λ terms. HasCycles terms) }
+    ensures built { IfOk result (λ terms. IsBuilt terms.kind) }
     ensures grew { OnOk result (GrewBy 4 2 names.old names.new) }
 {
     let common = read_common(alloc, contract, number, names)?;

@@ -140,9 +140,9 @@ fn factor(
 fn pair_name(alloc: Global, currency: &str, other: &str) -> Result<String, NoMemory>
     ensures { IfOk result (λ pair. string_bytes pair ≡ pair_name currency.now other.now) }
 {
-    let mut pair = String::from_str(alloc, currency).map_err(|_| NoMemory)?;
-    pair.push_str("/").map_err(|_| NoMemory)?;
-    pair.push_str(other).map_err(|_| NoMemory)?;
+    let mut pair = String::from_str(alloc, currency)?;
+    pair.push_str("/")?;
+    pair.push_str(other)?;
     Ok(pair)
 }
 

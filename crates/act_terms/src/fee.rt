@@ -1,27 +1,26 @@
 //! The terms of a loan's fees.
-ghost use Rattle.std.specs.Prelude.{◌≡◌, ◌≢◌, Err, IfOk};
+ghost use Rattle.std.specs.Prelude.{◌≡◌, IfOk};
 ghost use Rattle.serde_json.specs.View.{view};
-ghost use Rattle.act_loan.specs.Cycles.{LeadsOn};
+ghost use Rattle.act_profile.specs.Built.{LeadsOn};
 ghost use Rattle.act_terms.specs.Loan.{fee_of};
 
-use crate::choices::fee_basis;
+use crate::choices::choice_in;
 use crate::fault::TermsFault;
 use crate::fields::{needed_where, optional_cycle, optional_day, optional_decimal};
 use act_model::Fee;
 use act_num::Fixed;
 use serde_json::Value;
-use std::alloc::Global;
 
 /// The fees. Where there is a fee its basis is required.
 #[tactic(auto, unfolding(crate::specs::Loan::fee_of))]
-pub(crate) fn read_fee(alloc: Global, contract: &Value) -> Result<Fee, TermsFault>
-    ensures fee { result ≢ Err TermsFault.NoMemory → result ≡ fee_of (view contract.now) }
+pub(crate) fn read_fee(contract: &Value) -> Result<Fee, TermsFault>
+    ensures fee { result ≡ fee_of (view contract.now) }
     ensures cycle { IfOk result (λ fee. LeadsOn fee.cycle_of_fee) }
 {
     let anchor = optional_day(contract, "cycleAnchorDateOfFee")?;
     let cycle = optional_cycle(contract, "cycleOfFee")?;
     let rate = optional_decimal(contract, "feeRate")?;
-    let basis = needed_where(rate.is_some(), "feeBasis", fee_basis(alloc, contract))?;
+    let basis = needed_where(rate.is_some(), "feeBasis", choice_in(contract, "feeBasis"))?;
     let accrued = optional_decimal(contract, "feeAccrued")?;
     Ok(Fee {
         cycle_anchor_date_of_fee: anchor,

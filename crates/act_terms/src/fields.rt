@@ -1,7 +1,7 @@
 //! Terms that are required, that may be left out, and that have a bound.
 ghost use Rattle.std.specs.Prelude.{◌≡◌, IfOk};
 ghost use Rattle.serde_json.specs.View.{view};
-ghost use Rattle.act_loan.specs.Cycles.{LeadsOn};
+ghost use Rattle.act_profile.specs.Built.{LeadsOn};
 ghost use Rattle.act_terms.specs.Fields.{day_after, needed, needed_day, needed_where, not_negative, optional, optional_cycle, optional_day, optional_decimal, positive};
 
 use crate::fault::{TermCause, TermsFault, fault_at, refused};

@@ -1,16 +1,15 @@
 //! The terms of a loan's interest.
-ghost use Rattle.std.specs.Prelude.{◌≡◌, ◌≢◌, Err, IfOk};
+ghost use Rattle.std.specs.Prelude.{◌≡◌, IfOk};
 ghost use Rattle.serde_json.specs.View.{view};
-ghost use Rattle.act_loan.specs.Cycles.{LeadsOn};
+ghost use Rattle.act_profile.specs.Built.{LeadsOn};
 ghost use Rattle.act_terms.specs.Loan.{interest_dates_of, interest_of};
 
-use crate::choices::day_count;
+use crate::choices::choice_in;
 use crate::fault::TermsFault;
 use crate::fields::{optional, optional_cycle, optional_day, optional_decimal};
 use act_date::{Cycle, Day, DayCount};
 use act_num::Fixed;
 use serde_json::Value;
-use std::alloc::Global;
 
 /// The rate, what has accrued, the premium, and how parts of a year are counted.
 #[derive(Clone, Copy)]
@@ -31,13 +30,16 @@ pub(crate) struct InterestDates {
 
 /// The rate, what has accrued, the premium, and how parts of a year are counted.
 #[tactic(auto, unfolding(crate::specs::Loan::interest_of))]
-pub(crate) fn read_interest(alloc: Global, contract: &Value) -> Result<Interest, TermsFault>
-    ensures { result ≢ Err TermsFault.NoMemory → result ≡ interest_of (view contract.now) }
+pub(crate) fn read_interest(contract: &Value) -> Result<Interest, TermsFault>
+    ensures { result ≡ interest_of (view contract.now) }
 {
     let rate = optional_decimal(contract, "nominalInterestRate")?;
     let accrued = optional_decimal(contract, "accruedInterest")?;
     let premium = optional_decimal(contract, "premiumDiscountAtIED")?;
-    let day_count = optional("dayCountConvention", day_count(alloc, contract))?;
+    let day_count = optional(
+        "dayCountConvention",
+        choice_in(contract, "dayCountConvention"),
+    )?;
     Ok(Interest {
         nominal_interest_rate: rate,
         accrued_interest: accrued,

@@ -2,7 +2,7 @@
 ghost use Rattle.std.specs.Prelude.{◌≡◌, ◌≢◌, Ok, Err, IfOk, IfErr, OnOk};
 ghost use Rattle.serde_json.specs.View.{view};
 ghost use Rattle.act_terms.specs.Loan.{loan_of, pam_of};
-ghost use Rattle.act_terms.specs.Cycles.{LoanLeadsOn};
+ghost use Rattle.act_profile.specs.Built.{LoanLeadsOn};
 ghost use Rattle.act_terms.specs.Names.{GrewBy, HasRoom};
 
 use crate::fault::TermsFault;
@@ -62,12 +62,12 @@ fn read_loan(
         "notionalPrincipal",
         not_negative(contract, "notionalPrincipal"),
     )?;
-    let interest = read_interest(alloc, contract)?;
+    let interest = read_interest(contract)?;
     let dates = read_interest_dates(contract)?;
     let rate_reset = read_rate_reset(alloc, contract, names)?;
-    let fee = read_fee(alloc, contract)?;
+    let fee = read_fee(contract)?;
     let scaling = read_scaling(alloc, contract, names)?;
-    let penalty = read_penalty(alloc, contract)?;
+    let penalty = read_penalty(contract)?;
     reset_code_for(
         penalty.penalty_type,
         rate_reset.market_object_code_of_rate_reset,

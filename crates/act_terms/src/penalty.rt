@@ -1,15 +1,14 @@
 //! The terms of penalties of prepayments.
-ghost use Rattle.std.specs.Prelude.{◌≡◌, ◌≢◌, Err};
+ghost use Rattle.std.specs.Prelude.{◌≡◌};
 ghost use Rattle.serde_json.specs.View.{view};
 ghost use Rattle.act_terms.specs.Loan.{penalty_of, reset_code_for};
 
-use crate::choices::penalty_type;
+use crate::choices::choice_in;
 use crate::fault::{TermCause, TermsFault, refused};
 use crate::fields::{optional, optional_decimal};
 use act_model::PenaltyType;
 use act_num::Fixed;
 use serde_json::Value;
-use std::alloc::Global;
 
 /// The penalty of a prepayment.
 #[derive(Clone, Copy)]
@@ -20,10 +19,10 @@ pub(crate) struct Penalty {
 
 /// The penalty of a prepayment.
 #[tactic(auto, unfolding(crate::specs::Loan::penalty_of))]
-pub(crate) fn read_penalty(alloc: Global, contract: &Value) -> Result<Penalty, TermsFault>
-    ensures { result ≢ Err TermsFault.NoMemory → result ≡ penalty_of (view contract.now) }
+pub(crate) fn read_penalty(contract: &Value) -> Result<Penalty, TermsFault>
+    ensures { result ≡ penalty_of (view contract.now) }
 {
-    let penalty_type = optional("penaltyType", penalty_type(alloc, contract))?;
+    let penalty_type = optional("penaltyType", choice_in(contract, "penaltyType"))?;
     let rate = optional_decimal(contract, "penaltyRate")?;
     Ok(Penalty {
         penalty_type: penalty_type.unwrap_or(PenaltyType::O),

@@ -1,7 +1,7 @@
 //! The terms of rate resets.
 ghost use Rattle.std.specs.Prelude.{◌≡◌, ◌≢◌, ◌||◌, Ok, Err, IfOk, IfErr, OnOk, is_some};
 ghost use Rattle.serde_json.specs.View.{view};
-ghost use Rattle.act_loan.specs.Cycles.{LeadsOn};
+ghost use Rattle.act_profile.specs.Built.{LeadsOn};
 ghost use Rattle.act_terms.specs.Loan.{rate_limits_of, rate_reset_of};
 ghost use Rattle.act_terms.specs.Names.{GrewBy, HasRoom};
 

@@ -1,11 +1,11 @@
 //! The terms of a loan's scaling.
 ghost use Rattle.std.specs.Prelude.{◌≡◌, ◌≢◌, Ok, Err, IfOk, IfErr, OnOk};
 ghost use Rattle.serde_json.specs.View.{view};
-ghost use Rattle.act_loan.specs.Cycles.{LeadsOn};
+ghost use Rattle.act_profile.specs.Built.{LeadsOn};
 ghost use Rattle.act_terms.specs.Loan.{no_effect, scales, scaling_of};
 ghost use Rattle.act_terms.specs.Names.{GrewBy, HasRoom};
 
-use crate::choices::scaling_effect;
+use crate::choices::choice_in;
 use crate::currencies::code_where;
 use crate::fault::TermsFault;
 use crate::fields::{needed_where, optional, optional_cycle, optional_day, positive};
@@ -33,7 +33,7 @@ pub(crate) fn read_scaling(
     ensures cycle { IfOk result (λ scaling. LeadsOn scaling.cycle_of_scaling_index) }
     ensures grew { OnOk result (GrewBy 1 0 names.old names.new) }
 {
-    let given = optional("scalingEffect", scaling_effect(alloc, contract))?;
+    let given = optional("scalingEffect", choice_in(contract, "scalingEffect"))?;
     let effect = given.unwrap_or(NO_EFFECT);
     let scales = scales(effect);
     let anchor = optional_day(contract, "cycleAnchorDateOfScalingIndex")?;

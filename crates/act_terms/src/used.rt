@@ -83,9 +83,8 @@ pub fn unused_names(alloc: Global, contract: &Value) -> Result<Vec<String>, NoMe
 fn push_name(names: &mut Vec<String>, name: &str) -> Result<(), NoMemory>
     ensures { OnOk result (map string_bytes names.new.items ≡ map string_bytes names.old.items ++ name.now ∷ []) }
 {
-    let name = String::from_str(*names.allocator(), name).map_err(|_| NoMemory)?;
-    names.push(name).map_err(|_| NoMemory)?;
-    Ok(())
+    let name = String::from_str(*names.allocator(), name)?;
+    Ok(names.push(name)?)
 }
 
 /// Whether a name is a term of a PAM.

@@ -106,6 +106,6 @@ impl TextLine {
         ensures err { OnErr result (out.new.items ≡ out.old.items) }
     {
         self.push_bytes(b"\n");
-        out.extend_from_slice(self.as_bytes()).map_err(|_| NoMemory)
+        Ok(out.extend_from_slice(self.as_bytes())?)
     }
 }

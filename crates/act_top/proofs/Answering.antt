@@ -15,17 +15,17 @@ use Rattle.act_model.specs.declared.journal.Step.TheVariants.{Append, Ask}
 use Rattle.act_model.specs.declared.observed.Obs.{Obs}
 use Rattle.act_io.specs.Put.{written_after}
 use Rattle.act_portfolio.specs.Reading.{Accepted}
-use Rattle.act_print.specs.Asks.{asks_of, caller_asks}
+use Rattle.act_model.specs.Asks.{asks_of, caller_asks}
 use Rattle.act_print.specs.Printed.{Block, Response}
 use Rattle.act_print.specs.Text.{answer_text, text_of}
-use Rattle.act_print.specs.declared.asks.Asking.{Asking}
+use Rattle.act_model.specs.declared.asks.Asking.{Asking}
 use Rattle.act_script.specs.Reading.{Script}
-use Rattle.act_script.specs.Step.{is_append}
+use Rattle.act_model.specs.Journal.{is_append, book_of}
 use Rattle.act_script.specs.Spending.{overweight_behind}
 use Rattle.act_script.specs.Weight.{Tariff, all_asks, ask_weight, script_asks}
 use Rattle.act_script.proofs.Weighing.{in_turn}
-use Rattle.act_print.proofs.AsksInTurn.{asks_from, asks_in_turn}
-use Rattle.act_top.specs.Output.{all_end, book_of, is_end, items_of, output_of, response_of, responses_of, tariff_of, too_much_asked}
+use Rattle.act_model.proofs.AsksInTurn.{asks_from, asks_in_turn}
+use Rattle.act_top.specs.Output.{all_end, is_end, items_of, output_of, response_of, responses_of, tariff_of, too_much_asked}
 use Rattle.act_top.specs.Ready.{opening_text}
 use Rattle.act_top.specs.Written.{IsPartAt}
 use Rattle.act_top.specs.declared.writing.Stop.{Stop}

@@ -9,7 +9,7 @@ use Rattle.act_model.specs.declared.journal.Step.TheVariants.{Append, Ask}
 use Rattle.act_portfolio.specs.Reading.{Accepted}
 use Rattle.act_script.specs.Asks.{AsksBelow, is_below}
 use Rattle.act_script.specs.Reading.{Script}
-use Rattle.act_script.specs.Step.{is_known}
+use Rattle.act_model.specs.Journal.{is_known}
 use Rattle.act_top.specs.Halts.{refusal_of}
 use Rattle.act_top.specs.Output.{Outcome, eval_outcome, script_refused, too_much_asked}
 use Rattle.act_top.specs.declared.halt.Halt.{Halt}

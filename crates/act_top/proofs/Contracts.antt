@@ -6,9 +6,9 @@ use Rattle.std.proofs.lemmas.Option.{get_or_from_slice_get, slice_get_read, slic
 use Rattle.act_model.specs.declared.terms.Terms.{Terms}
 use Rattle.act_portfolio.specs.Counts.{scheduled_count}
 use Rattle.act_portfolio.specs.Reading.{Accepted}
-use Rattle.act_profile.specs.Contract.{type_of}
+use Rattle.act_model.specs.Kind.{type_name, type_of}
 use Rattle.act_text.specs.Lines.{name_of}
-use Rattle.act_top.specs.Output.{contract_line, contracts_text, type_word, unused_line}
+use Rattle.act_top.specs.Output.{contract_line, contracts_text, unused_line}
 use Rattle.act_top.proofs.Texts.{drop-next}
 
 -- the item of a place, and those behind it
@@ -27,7 +27,7 @@ name-at names i within = slice_get-get_or names i [] within ∙ ap (λ (name : L
 pub contracts-next : (portfolio : Accepted) (c : ℕ) (terms : Terms) (id name : List ℕ) (unused : List (List ℕ)) (count : ℕ) →
     slice_get portfolio.contracts.terms c ≡ Some terms → slice_get portfolio.names.contracts c ≡ Some id → slice_get portfolio.unused c ≡ Some unused → name ≡ id → count ≡ scheduled_count portfolio.contracts c →
     contracts_text portfolio c (drop c portfolio.contracts.terms) (drop c portfolio.names.contracts) (drop c portfolio.unused)
-    ≡ (contract_line name (type_word (type_of terms.kind)) count ++ flat_map unused_line unused)
+    ≡ (contract_line name (type_name (type_of terms.kind)) count ++ flat_map unused_line unused)
     ++ contracts_text portfolio (c + 1) (drop (c + 1) portfolio.contracts.terms) (drop (c + 1) portfolio.names.contracts) (drop (c + 1) portfolio.unused)
 unfolding contracts_text
 contracts-next portfolio c terms id name unused count of named without same counted =

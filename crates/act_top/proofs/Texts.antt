@@ -1,8 +1,9 @@
 -- Texts that are written piece by piece.
-use Rattle.std.proofs.Common.{◌≡◌, ℕ, ◌+◌, ◌<◌, ◌≤◌, zero, suc, List, [], ◌∷◌, ◌++◌, length, take, drop, get_or, drop-cons, add-one, Option, None, Some, Result, Ok, Err, refl, sym, ap, subst, ◌∙◌, arith, append_assoc, append-nil, length-append}
+use Rattle.std.proofs.Common.{◌≡◌, ℕ, ◌+◌, ◌<◌, ◌≤◌, zero, suc, List, [], ◌∷◌, ◌++◌, length, take, drop, get_or, drop-cons, add-one, Option, None, Some, Result, Ok, Err, inl, inr, refl, sym, ap, subst, ◌∙◌, arith, append_assoc, append-nil, length-append}
 use Rattle.std.specs.Result.{IsErrAnd}
 use Rattle.std.proofs.Math.Seq.{take-append-add}
 use Rattle.std.proofs.lemmas.List.{take-append-drop, take-append-le, length-take, drop_all}
+use Rattle.act_io.specs.Faults.{Rose}
 use Rattle.act_io.specs.Put.{written_after}
 use Rattle.act_top.specs.Written.{IsPartAt, Writes}
 use Rattle.act_top.specs.declared.writing.Stop.{Stop}
@@ -92,6 +93,29 @@ writes-behind (Err stop) a b before middle after first second = part-behind stop
 pub writes-part : {A : Type 0} (r : Result A Stop) (stop : Stop) (text : List ℕ) (before after : Option (List ℕ)) → IsErrAnd r (λ s. s ≡ stop) → IsPartAt stop text before after → Writes r text before after
 writes-part (Ok value) stop text before after is part = absurd is
 writes-part (Err s) stop text before after is part = subst (λ (t : Stop). IsPartAt t text before after) (sym is) part
+
+-- where memory ran out before anything was written, nothing of the text was
+pub writes-none : {A : Type 0} (r : Result A Stop) (text : List ℕ) (before : Option (List ℕ)) → IsErrAnd r (λ s. s ≡ Memory) → Writes r text before before
+writes-none r text before is = writes-part r Memory text before before is (record { bytes = 0; put = sym (written-nothing before) })
+
+-- nor did the sink fail
+pub not-failed : {A : Type 0} (r : Result A Stop) (Failed : Type 0) → IsErrAnd r (λ s. s ≡ Memory) → r ≡ Err SinkStop → Failed
+not-failed (Ok value) Failed is failed = absurd is
+not-failed (Err s) Failed is failed = absurd (cc)
+
+-- what was written whole didn't fail
+pub never-failed : {A : Type 0} (value : A) (Failed : Type 0) → ◌≡◌ {A = Result A Stop} (Ok value) (Err SinkStop) → Failed
+never-failed value Failed is = absurd (cc)
+
+-- the sink failed behind what was written before
+pub rose-behind : (before middle now : ℕ) → before ≤ middle → Rose middle now → Rose before now
+rose-behind before middle now below (inl more) = inl (omega arith)
+rose-behind before middle now below (inr last) = inr last
+
+-- where a stop is handed on, the sink failed where it had
+pub failed-on : (B : Type 0) {A : Type 0} (r : Result A Stop) (stop : Stop) (Failed : Type 0) → IsErrAnd r (λ s. s ≡ stop) → (◌≡◌ {A = Result B Stop} (Err stop) (Err SinkStop) → Failed) → r ≡ Err SinkStop → Failed
+failed-on B (Ok value) stop Failed is next failed = absurd is
+failed-on B (Err s) stop Failed is next failed = let same : s ≡ SinkStop = cc in next (ap (λ (t : Stop). Err t) (sym is ∙ same))
 
 -- the same of the first text of two
 pub writes-first : {A : Type 0} (r : Result A Stop) (stop : Stop) (a b : List ℕ) (before after : Option (List ℕ)) → IsErrAnd r (λ s. s ≡ stop) → IsPartAt stop a before after → Writes r (a ++ b) before after

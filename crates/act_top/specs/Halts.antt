@@ -3,7 +3,8 @@ use Rattle.std.specs.Prelude.{◌≡◌, ◌<◌, ◌⊎◌, ℕ, List, [], ◌�
 use Rattle.std.specs.declared.alloc.Global.{Global}
 use Rattle.act_top.specs.Asked.{Asks, AsksFirst, NamesFile}
 use Rattle.act_top.specs.Command.{CommandWords, files_of}
-use Rattle.act_top.specs.Output.{Outcome, long_outcome, most_bytes, read_outcome}
+use Rattle.act_top.specs.Output.{Outcome, long_outcome, read_outcome}
+use Rattle.act_model.specs.Limits.{most_bytes}
 use Rattle.act_top.specs.declared.halt.Halt.{Halt}
 use Rattle.act_top.specs.declared.halt.Halt.TheVariants as halt
 use Rattle.act_top.specs.declared.top.Status.TheVariants.{ReadFault, TooLong, PortfolioRefused, ScriptRefused, NoMemory}

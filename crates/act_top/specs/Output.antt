@@ -2,10 +2,10 @@
 use Rattle.std.specs.Prelude.{◌≡◌, ℕ, ◌+◌, nat_lt, if◌then◌else◌, Bool, true, false, List, [], ◌∷◌, ◌++◌, length, map, take, codes, decimal, Option, Some, None, option_map, option_and_then, Result, Ok, Err, ⊤}
 use Rattle.std.specs.List.{count_by, filter_map, flat_map, list_all, range_with_len, sum}
 use Rattle.act_io.specs.Put.{written_after}
+use Rattle.act_model.specs.Limits.{most_bytes}
 use Rattle.act_model.specs.Name.{has_form}
 use Rattle.act_model.specs.Names.{NameLists}
-use Rattle.act_model.specs.declared.choice.ContractType.{ContractType}
-use Rattle.act_model.specs.declared.choice.ContractType.TheVariants as type
+use Rattle.act_model.specs.Kind.{type_name, type_of}
 use Rattle.act_model.specs.declared.journal.Asked.TheVariants.{All}
 use Rattle.act_model.specs.declared.journal.Item.{Item}
 use Rattle.act_model.specs.declared.journal.Line.{Line}
@@ -19,11 +19,11 @@ use Rattle.act_model.specs.declared.terms.Terms.{Terms}
 use Rattle.act_portfolio.specs.Counts.{cone_sum, scheduled_count}
 use Rattle.act_portfolio.specs.Reading.{Accepted, portfolio_of}
 use Rattle.act_portfolio.specs.Refusal.{Refusal}
-use Rattle.act_print.specs.Asks.{asks_of, contracts_of}
+use Rattle.act_model.specs.Asks.{asks_of}
+use Rattle.act_model.specs.Journal.{book_of, contracts_of}
 use Rattle.act_print.specs.Printed.{Block, Response, printed_block}
 use Rattle.act_print.specs.Text.{text_of}
-use Rattle.act_print.specs.declared.asks.Asking.{Asking}
-use Rattle.act_profile.specs.Contract.{type_of}
+use Rattle.act_model.specs.declared.asks.Asking.{Asking}
 use Rattle.act_profile.specs.Run.{run_of}
 use Rattle.act_script.specs.Reading.{Script, script_of}
 use Rattle.act_script.specs.Weight.{Tariff, all_asks, overweight}
@@ -81,10 +81,6 @@ script_fault (TooManyEntries line) = script_refused 4 1 line
 script_fault NoMemoryToRead = record { status = NoMemory; text = [] }
 
 -- ---- files
-
--- the most bytes of a file: 64 MiB
-abbrev pub most_bytes : ℕ
-most_bytes = 67_108_864
 
 -- the portfolio that bytes are, or the line that refuses them
 abbrev pub portfolio_accepted : List ℕ → Result Accepted Outcome
@@ -153,15 +149,6 @@ too_much_asked portfolio lines = overweight (all_asks (tariff_of portfolio lines
 abbrev pub items_of : List Line → List Item
 items_of lines = map (λ (line : Line). record { caller = 1; step = line.step }) lines
 
--- the entry that a step appends
-abbrev pub entry_of : Step → Option Obs
-entry_of (Append entry) = Some entry
-entry_of (Ask asked) = None
-
--- the book of a journal: the entries that its items append, in order
-abbrev pub book_of : List Item → List Obs
-book_of items = filter_map (λ (item : Item). entry_of item.step) items
-
 -- the block of a contract: its run from inception over these entries
 abbrev pub block_of : Accepted → List Obs → ℕ → Block
 block_of portfolio entries c = printed_block (c, run_of portfolio.contracts entries c)
@@ -210,22 +197,6 @@ eval_outcome portfolio script = elim (too_much_asked portfolio script.lines) [
 
 -- ---- what `check` writes
 
--- the ACTUS name of a type
-abbrev pub type_word : ContractType → List ℕ
-type_word type.PAM = codes "PAM"
-type_word type.LAM = codes "LAM"
-type_word type.NAM = codes "NAM"
-type_word type.ANN = codes "ANN"
-type_word type.STK = codes "STK"
-type_word type.FXOUT = codes "FXOUT"
-type_word type.SWPPV = codes "SWPPV"
-type_word type.SWAPS = codes "SWAPS"
-type_word type.CAPFL = codes "CAPFL"
-type_word type.OPTNS = codes "OPTNS"
-type_word type.FUTUR = codes "FUTUR"
-type_word type.CEG = codes "CEG"
-type_word type.CEC = codes "CEC"
-
 -- a name of printable characters without space, of whatever length, stands as it is, and any other as `?`
 abbrev pub shown_name : List ℕ → List ℕ
 shown_name name = if has_form (length name) name then name else codes "?"
@@ -245,7 +216,7 @@ count_line count = line_of (codes "portfolio") (codes "ok" ∷ decimal count ∷
 -- a contract: its name, its kind and its scheduled count, and below it each name that isn't used
 abbrev pub contract_text : Accepted → ℕ → Terms → List ℕ → List (List ℕ) → List ℕ
 contract_text portfolio c terms id unused =
-    contract_line id (type_word (type_of terms.kind)) (scheduled_count portfolio.contracts c) ++ flat_map unused_line unused
+    contract_line id (type_name (type_of terms.kind)) (scheduled_count portfolio.contracts c) ++ flat_map unused_line unused
 
 -- the contracts from a number on
 unfoldable pub contracts_text : Accepted → ℕ → List Terms → List (List ℕ) → List (List (List ℕ)) → List ℕ

@@ -1,11 +1,12 @@
 -- What is ready to be written. This profile's own.
 use Rattle.std.specs.Prelude.{◌≡◌, ◌<◌, ◌≤◌, ℕ, not, true, List, [], ◌++◌, length, slice_get, Some, None}
 use Rattle.std.specs.List.{All, count_by, flat_map}
+use Rattle.act_model.specs.Limits.{most_entries}
 use Rattle.act_model.specs.declared.journal.Line.{Line}
 use Rattle.act_portfolio.specs.Reading.{Accepted}
 use Rattle.act_print.specs.Text.{answers_head_text, item_text, journal_head_text}
 use Rattle.act_script.specs.Reading.{Script}
-use Rattle.act_script.specs.Step.{appends_entry, is_append, is_known}
+use Rattle.act_model.specs.Journal.{appends_entry, is_append, is_known}
 use Rattle.act_top.specs.Output.{Outcome, answers_status, items_of, output_of, responses_of, too_much_asked}
 
 -- what is true of the lines of a script of a portfolio: the contracts are the portfolio's, what a step names is named, what it appends is an
@@ -14,7 +15,7 @@ pub record AreOf (portfolio : Accepted) (script : Script) : Type 0 where
   pub contracts : script.names.contracts ≡ portfolio.names.contracts
   pub known : All (λ (line : Line). is_known script.names line.step ≡ true) script.lines
   pub entries : All (λ (line : Line). appends_entry line.step ≡ true) script.lines
-  pub few : count_by (λ (line : Line). is_append line.step) script.lines ≤ 1_048_576
+  pub few : count_by (λ (line : Line). is_append line.step) script.lines ≤ most_entries
 
 -- what is true of a portfolio: each contract has a name, and refers to no others
 pub record AreAlone (portfolio : Accepted) : Type 0 where

@@ -2,11 +2,10 @@
 ghost use Rattle.std.specs.Prelude.{◌≡◌, ◌≤◌, true, length, Err, IfOk, map};
 ghost use Rattle.std.specs.List.{All, flat_map, list_all};
 ghost use Rattle.act_io.specs.Faults.{Rose};
-ghost use Rattle.act_print.specs.Asks.{contracts_of};
+ghost use Rattle.act_model.specs.Journal.{contracts_of, is_known, book_of};
 ghost use Rattle.act_print.specs.Printed.{Block};
 ghost use Rattle.act_print.specs.Text.{answer_head_text, answer_text, answers_head_text, block_text};
-ghost use Rattle.act_script.specs.Step.{is_known};
-ghost use Rattle.act_top.specs.Output.{all_end, block_of, book_of, is_end, items_of, output_of, response_of, responses_of};
+ghost use Rattle.act_top.specs.Output.{all_end, block_of, is_end, items_of, output_of, response_of, responses_of};
 ghost use Rattle.act_top.specs.Ready.{opening_text};
 ghost use Rattle.act_top.specs.Written.{Writes};
 ghost use Rattle.act_top.specs.declared.writing.Stop.TheVariants.{Sink as SinkStop};
@@ -17,9 +16,9 @@ use crate::reading::Script;
 use crate::writing::{Stop, write_line};
 use act_book::{Book, Snapshot};
 use act_io::Sink;
-use act_model::{Answer, Asked, Step};
+use act_model::{Answer, Asked, Asking, Step};
 use act_num::Steps;
-use act_print::{Asking, answer_head, answers_head};
+use act_print::{answer_head, answers_head};
 use std::alloc::Global;
 use std::sync::ledger::Ledger;
 

@@ -3,9 +3,10 @@ ghost use Rattle.std.specs.Prelude.{◌≡◌, ◌≤◌, ◌++◌, length, map,
 ghost use Rattle.std.specs.List.{flat_map, list_all};
 ghost use Rattle.act_io.specs.Faults.{Rose};
 ghost use Rattle.act_model.specs.Name.{has_form, is_graphic};
-ghost use Rattle.act_profile.specs.Contract.{type_of};
+ghost use Rattle.act_model.specs.Kind.{type_of};
 ghost use Rattle.act_text.specs.Lines.{line_of};
-ghost use Rattle.act_top.specs.Output.{check_text, contract_line, contracts_text, count_line, shown_name, type_word, unused_line};
+ghost use Rattle.act_model.specs.Kind.{type_name};
+ghost use Rattle.act_top.specs.Output.{check_text, contract_line, contracts_text, count_line, shown_name, unused_line};
 ghost use Rattle.act_top.specs.Written.{Writes};
 ghost use Rattle.act_top.specs.declared.writing.Stop.TheVariants.{Sink as SinkStop};
 
@@ -29,7 +30,9 @@ pub(crate) fn write_check<K: Sink>(
 {
     let names = portfolio.into_names()?;
     let mut line = Vec::new(alloc);
-    write_portfolio(out, &mut line, portfolio, &names)
+    let written = write_portfolio(out, &mut line, portfolio, &names);
+    drop(names);
+    written
 }
 
 /// Writes how many contracts have a name, and each of them. `line` is room for a line.
@@ -90,12 +93,13 @@ fn write_contract<K: Sink>(
     count: u64,
     unused: &[String],
 ) -> Result<(), Stop>
-    ensures text { Writes result (contract_line id.now (type_word (type_of kind.now)) count ++ flat_map unused_line (map string_bytes unused.now))
+    ensures text { Writes result (contract_line id.now (type_name (type_of kind.now)) count ++ flat_map unused_line (map string_bytes unused.now))
         (K.written out.old) (K.written out.new) }
     ensures failed { result ≡ Err SinkStop → Rose (K.faults out.old) (K.faults out.new) }
     ensures count { K.faults out.old ≤ K.faults out.new }
 {
-    write_contract_line(out, line, id, type_word(kind), count)?;
+    let kind = kind.contract_type().name();
+    write_contract_line(out, line, id, kind.as_bytes(), count)?;
     write_unused(out, line, unused)
 }
 
@@ -180,25 +184,4 @@ fn are_graphic(bytes: &[u8]) -> bool
     ensures { result ≡ list_all is_graphic bytes.now }
 {
     bytes.iter().all(|byte| byte.is_ascii_graphic())
-}
-
-/// The ACTUS name of a kind of contracts.
-fn type_word(kind: &Kind) -> &'static [u8]
-    ensures { result.now ≡ type_word (type_of kind.now) }
-{
-    match kind {
-        Kind::PAM(_) => b"PAM",
-        Kind::LAM(_) => b"LAM",
-        Kind::NAM(_) => b"NAM",
-        Kind::ANN(_) => b"ANN",
-        Kind::STK(_) => b"STK",
-        Kind::FXOUT(_) => b"FXOUT",
-        Kind::SWPPV(_) => b"SWPPV",
-        Kind::SWAPS(_) => b"SWAPS",
-        Kind::CAPFL(_) => b"CAPFL",
-        Kind::OPTNS(_) => b"OPTNS",
-        Kind::FUTUR(_) => b"FUTUR",
-        Kind::CEG(_) => b"CEG",
-        Kind::CEC(_) => b"CEC",
-    }
 }

@@ -5,7 +5,7 @@ ghost use Rattle.act_top.specs.Command.{command_of};
 use std::marker::Model;
 
 /// What a command does.
-#[derive(Clone, Copy, Debug, PartialEq, Eq)]
+#[derive(Clone, Copy)]
 pub(crate) enum Verb {
     /// It evaluates contracts.
     Eval,

@@ -41,7 +41,13 @@ impl Evaluation {
         ensures too_much { IfErr result (λ halt. IfSome (refusal_of halt) (λ outcome. eval_outcome portfolio script ≡ outcome)) }
         ensures refused { IfErr result (RefusesOnly ⊥ ⊤) }
     {
-        check_weight(alloc, &portfolio, &script)?;
-        Ok(Evaluation { portfolio, script })
+        match check_weight(alloc, &portfolio, &script) {
+            Ok(()) => Ok(Evaluation { portfolio, script }),
+            Err(halt) => {
+                drop(portfolio);
+                drop(script);
+                Err(halt)
+            }
+        }
     }
 }

@@ -5,15 +5,15 @@ ghost use Rattle.std.specs.Option.{option_to_list};
 ghost use Rattle.act_io.specs.Faults.{Rose};
 ghost use Rattle.act_model.specs.declared.journal.Line.{Line as StepLine};
 ghost use Rattle.act_print.specs.Text.{item_text, journal_head_text};
-ghost use Rattle.act_script.specs.Step.{appends_entry, is_append, is_known};
-ghost use Rattle.act_top.specs.Output.{book_of, entry_of, items_of};
+ghost use Rattle.act_model.specs.Journal.{appends_entry, is_append, is_known, book_of, entry_of};
+ghost use Rattle.act_top.specs.Output.{items_of};
 ghost use Rattle.act_top.specs.Written.{Writes};
 ghost use Rattle.act_top.specs.declared.writing.Stop.TheVariants.{Sink as SinkStop};
 
 use crate::writing::{Stop, write_line};
 use act_book::{Book, BookFault};
 use act_io::Sink;
-use act_model::{Item, Line, Names, Step};
+use act_model::{Item, Line, MOST_ENTRIES, Names, Step};
 use act_num::NoMemory;
 use act_print::{item_line, journal_head};
 use std::alloc::Global;
@@ -91,7 +91,7 @@ fn write_item<K: Sink>(
 /// The book of a script: the entries that its steps append.
 pub(crate) fn book_of(alloc: Global, lines: &[Line]) -> Result<Book, NoMemory>
     requires entries { All (λ line. appends_entry line.step ≡ true) lines.now }
-    requires few { count_by (λ (line : StepLine). is_append line.step) lines.now ≤ 1_048_576 }
+    requires few { count_by (λ (line : StepLine). is_append line.step) lines.now ≤ MOST_ENTRIES }
     ensures { IfOk result (λ book. book ≡ book_of (items_of lines.now)) }
 {
     let mut book = Book::new(alloc);
@@ -104,7 +104,7 @@ pub(crate) fn book_of(alloc: Global, lines: &[Line]) -> Result<Book, NoMemory>
 /// Adds the entry that a step appends, where it does, to a book that has room for it.
 fn append_step(book: &mut Book, step: Step) -> Result<(), NoMemory>
     requires entry { appends_entry step ≡ true }
-    requires room { is_append step ≡ true → length book.old < 1_048_576 }
+    requires room { is_append step ≡ true → length book.old < MOST_ENTRIES }
     ensures { IfOk result (λ _. book.new ≡ book.old ++ option_to_list (entry_of step)) }
 {
     match step {

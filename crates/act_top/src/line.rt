@@ -30,5 +30,5 @@ pub(crate) fn push_line(out: &mut Vec<u8>, word: &[u8], others: &[&[u8]]) -> Res
 fn push(out: &mut Vec<u8>, bytes: &[u8]) -> Result<(), NoMemory>
     ensures { OnOk result (out.new.items ≡ out.old.items ++ bytes.now) }
 {
-    out.extend_from_slice(bytes).map_err(|_| NoMemory)
+    Ok(out.extend_from_slice(bytes)?)
 }

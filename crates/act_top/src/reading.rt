@@ -1,23 +1,22 @@
 //! Reading the files of a command.
-ghost use Rattle.std.specs.Prelude.{◌≡◌, ◌≤◌, ℕ, List, length, IfErr, IfOk, IfSome, option_map, ⊤, vec_len};
+ghost use Rattle.std.specs.Prelude.{◌≡◌, ◌≤◌, ℕ, List, length, Err, IfErr, IfOk, IfSome, Option, option_map, ⊤, vec_len};
 ghost use Rattle.act_io.specs.Faults.{Rose};
+ghost use Rattle.act_io.specs.Fetch.{names_after};
+ghost use Rattle.act_io.specs.declared.files.FetchFault.TheVariants.{Failed, TooLong as TooLongFault};
 ghost use Rattle.act_top.specs.Halts.{AsksFile, AsksScript, OnUnread, Reads, ReadsBytes, RefusesOnly, refusal_of};
-ghost use Rattle.act_top.specs.Output.{ask_for_all, portfolio_accepted, portfolio_read, portfolio_refused, script_accepted, script_fault, script_read, script_refused, script_told};
+ghost use Rattle.act_top.specs.Output.{ask_for_all, long_outcome, portfolio_accepted, portfolio_read, portfolio_refused, script_accepted, script_fault, script_read, script_refused, script_told};
 ghost use Rattle.act_top.specs.Ready.{AreAlone, AreOf};
 
 use crate::halt::Halt;
 use crate::line::line_of;
 use act_io::{FetchFault, Files};
-use act_model::{Asked, Line, Names, Step};
+use act_model::{Asked, Line, MOST_BYTES, Names, Step};
 use act_num::NoMemory;
 use act_portfolio::{Portfolio, PortfolioFault};
 use act_script::{ScriptFault, read_script};
 use itoa::Buffer;
 use std::alloc::Global;
 use std::marker::Model;
-
-/// The most bytes of a file: 64 MiB.
-const MOST_BYTES: u64 = 67_108_864;
 
 /// The lines of a script, the names with its codes, and how many entries it has.
 #[derive(Drop)]
@@ -94,7 +93,6 @@ fn ask_for_all(alloc: Global, portfolio: &Portfolio) -> Result<Script, Halt>
     ensures lines { IfOk result (λ script. AreOf portfolio.now script) }
     ensures memory { IfErr result (λ halt. halt ≡ Halt.Memory) }
 {
-    let names = portfolio.into_names()?;
     let ask = Line {
         step: Step::Ask(Asked::All),
         line: 1,
@@ -102,6 +100,7 @@ fn ask_for_all(alloc: Global, portfolio: &Portfolio) -> Result<Script, Halt>
     let Ok(lines) = Vec::from_slice(alloc, &[ask]) else {
         return Err(Halt::Memory);
     };
+    let names = portfolio.into_names()?;
     Ok(Script {
         lines,
         names,
@@ -120,13 +119,26 @@ fn fetch<F: Files>(alloc: Global, files: &mut F, name: &str) -> Result<Vec<u8>, 
 {
     match files.fetch(alloc, name, MOST_BYTES) {
         Ok(bytes) => Ok(bytes),
-        Err(FetchFault::Failed) => Err(Halt::Unread(line_of(alloc, b"read", &[name.as_bytes()])?)),
-        Err(FetchFault::TooLong) => Err(Halt::TooLong(line_of(
-            alloc,
-            b"long",
-            &[name.as_bytes()],
-        )?)),
-        Err(FetchFault::NoMemory) => Err(Halt::Memory),
+        Err(fault) => Err(fetch_halt(alloc, name, fault)),
+    }
+}
+
+/// The halt of a file's fault.
+fn fetch_halt(alloc: Global, name: &str, fault: FetchFault) -> Halt
+    ensures told { IfSome (refusal_of result) (λ outcome. (fault ≡ TooLongFault) × (outcome ≡ long_outcome name.now)) }
+    ensures failed { OnUnread {A = List ℕ} (Err result) (fault ≡ Failed) }
+    ensures asked { (earlier : Option (List (List ℕ))) → AsksFile {A = List ℕ} ⊥ ⊥ name.now (Err result) earlier (names_after (Err fault) earlier name.now) }
+{
+    match fault {
+        FetchFault::Failed => match line_of(alloc, b"read", &[name.as_bytes()]) {
+            Ok(line) => Halt::Unread(line),
+            Err(_) => Halt::Memory,
+        },
+        FetchFault::TooLong => match line_of(alloc, b"long", &[name.as_bytes()]) {
+            Ok(line) => Halt::TooLong(line),
+            Err(_) => Halt::Memory,
+        },
+        FetchFault::NoMemory => Halt::Memory,
     }
 }
 
@@ -183,7 +195,10 @@ fn accepted_script(alloc: Global, portfolio: &Portfolio, bytes: &[u8]) -> Result
             names,
             entries,
         }),
-        Err(fault) => Err(script_halt(alloc, fault)),
+        Err(fault) => {
+            drop(names);
+            Err(script_halt(alloc, fault))
+        }
     }
 }
 

@@ -66,6 +66,11 @@ fn evaluation_of<F: Files>(
     ensures count { F.faults files.old ≤ F.faults files.new }
     ensures asked { AsksScript (option_map (λ s. s.now) script.entry) result (F.asked files.old) (F.asked files.new) }
 {
-    let script = script_of(alloc, files, &portfolio, script)?;
-    Evaluation::new(alloc, portfolio, script)
+    match script_of(alloc, files, &portfolio, script) {
+        Ok(script) => Evaluation::new(alloc, portfolio, script),
+        Err(halt) => {
+            drop(portfolio);
+            Err(halt)
+        }
+    }
 }

@@ -102,7 +102,11 @@ pub fn eval_top<F: Files, K: Sink, L: Ledger>(
         return status_of(refuse_words(out));
     };
     match task_of(alloc, files, &command) {
-        Ok(task) => status_of(write_task(alloc, out, &task, steps)),
+        Ok(task) => {
+            let status = status_of(write_task(alloc, out, &task, steps));
+            drop(task);
+            status
+        }
         Err(halt) => status_of(write_halt(out, &halt)),
     }
 }

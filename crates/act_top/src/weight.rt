@@ -50,21 +50,14 @@ fn weights_of(alloc: Global, portfolio: &Portfolio) -> Result<Weights, NoMemory>
     ensures all { IfOk result (λ weights. weights.all ≡ sum (map (cone_sum portfolio.now.contracts) (numbers_of portfolio.now))) }
 {
     let contracts = portfolio.terms().len();
-    let mut each = Vec::with_capacity(alloc, contracts).map_err(|_| NoMemory)?;
+    let mut each = Vec::with_capacity(alloc, contracts)?;
     let mut all = 0;
     for contract in 0..portfolio.named() {
         let weight = portfolio.weight(contract);
         all += weight;
-        push(&mut each, weight)?;
+        each.push(weight)?;
     }
     Ok(Weights { each, all })
-}
-
-/// Adds a weight.
-fn push(weights: &mut Vec<u64>, weight: u64) -> Result<(), NoMemory>
-    ensures { OnOk result (weights.new.items ≡ weights.old.items ++ weight ∷ []) }
-{
-    weights.push(weight).map_err(|_| NoMemory)
 }
 
 /// How many event entries a script has.

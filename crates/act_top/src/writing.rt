@@ -9,7 +9,7 @@ use act_io::{PutFault, Sink};
 use act_num::NoMemory;
 
 /// Why a text isn't written whole.
-#[derive(Clone, Copy, Debug, PartialEq, Eq)]
+#[derive(Clone, Copy)]
 pub(crate) enum Stop {
     /// The sink failed.
     Sink,

@@ -1,14 +1,16 @@
 //! Calls of a book of observations, which is asked as a snapshot made early, as one made late, and as a plain list.
-ghost use Rattle.std.specs.Prelude.{◌≡◌, true, IfOk};
+ghost use Rattle.std.specs.Prelude.{◌≡◌, true, IfSome};
 ghost use Rattle.act_model.specs.Observed.{is_credit_event, is_entry};
 
-use crate::answers::{Answer, number, push_day, text, units};
+use crate::steps::entry_told;
+use crate::told::Told;
 use crate::trouble::Trouble;
 use crate::words::Words;
 use act_book::{Book, BookFault, Snapshot};
-use act_model::{Listed, Obs, ObsKind, Observed};
+use act_date::Day;
+use act_model::{Listed, Names, Obs, ObsKind, Observed};
 use act_num::Fixed;
-use std::alloc::{AllocError, Global};
+use std::alloc::Global;
 
 /// A book, the snapshots that were made before each of its entries, and its entries as a list.
 #[derive(Drop)]
@@ -16,6 +18,19 @@ pub struct Shelf {
     book: Book,
     early: Vec<Snapshot>,
     entries: Vec<Obs>,
+}
+
+/// What is asked of entries.
+#[derive(Drop)]
+struct Asked<'a> {
+    /// `value`, `events` or `entry`.
+    call: &'a str,
+    /// How many entries are seen.
+    version: u64,
+    /// The number of a code or a contract, or a place.
+    number: u64,
+    /// The day of a value.
+    day: Option<Day>,
 }
 
 impl Shelf {
@@ -28,82 +43,149 @@ impl Shelf {
         }
     }
 
-    /// What a call answers, or None of a call of another module.
-    pub fn answer(&mut self, alloc: Global, call: &str, given: &str) -> Option<Answer> {
-        Some(match call {
+    /// Tells what a call answers.
+    pub fn answer(&mut self, told: &mut Told, words: &mut Words<'_>, call: &str) {
+        match call {
             "book" => {
-                *self = Shelf::new(alloc);
-                number(alloc, i128::from(self.book.len()))
+                *self = Shelf::new(told.alloc);
+                told.value(self.book.len());
             }
-            "append" => self.append(alloc, given),
-            "value" | "events" | "entry" => self.ask(alloc, call, given),
-            "full_book" => full_book(alloc, given),
-            _ => return None,
-        })
+            "append" => self.append(told, words),
+            "full_book" => full_book(told, words),
+            _ => self.ask(told, words, call),
+        }
     }
 
     /// Appends an entry, and tells how many there are then.
-    fn append(&mut self, alloc: Global, given: &str) -> Answer {
-        let entry = entry_of(&mut Words::of(given))?;
-        self.early.push(first(&self.book, self.book.len())?)?;
-        let answer = self.book.append(entry);
-        self.entries.push(entry)?;
-        appended_told(alloc, answer)
+    fn append(&mut self, told: &mut Told, words: &mut Words<'_>) {
+        let Some(entry) = entry_of(words) else {
+            return words.fail(Trouble::OtherWord);
+        };
+        self.keep(told, &entry);
+        appended_told(told, self.book.append(entry));
     }
 
-    /// What is seen of the first entries.
-    fn ask(&self, alloc: Global, call: &str, given: &str) -> Answer {
-        let version = Words::of(given).place()?;
-        let told = late_told(alloc, &self.book, version, call, given)?;
-        let entries = self
-            .entries
-            .get(..version as usize)
-            .ok_or(Trouble::OutOfRange)?;
-        if list_told(alloc, entries, call, given)? != told {
-            return text(alloc, "the list differs");
-        }
-        match self.early.get(version as usize) {
-            Some(early) if seen_told(alloc, early, call, given)? != told => {
-                text(alloc, "the early snapshot differs")
+    /// Keeps a snapshot of what was there before the entry, and the entry.
+    fn keep(&mut self, told: &mut Told, entry: &Obs) {
+        if let Ok(early) = self.book.snapshot(self.book.len()) {
+            if self.early.push(early).is_ok() && self.entries.push(*entry).is_ok() {
+                return;
             }
-            _ => Ok(told),
+        }
+        told.fail(Trouble::NoMemory);
+    }
+
+    /// Tells what is seen of the first entries, in all three ways.
+    fn ask(&self, told: &mut Told, words: &mut Words<'_>, call: &str) {
+        let (version, number) = (words.place(), words.place());
+        let day = match call {
+            "value" => words.day(),
+            _ => None,
+        };
+        let asked = Asked {
+            call,
+            version,
+            number,
+            day,
+        };
+        self.late_told(told, &asked);
+        self.list_compared(told, &asked);
+        if let Some(early) = self.early.get(version as usize) {
+            compared(told, early, &asked);
+        }
+    }
+
+    /// Tells what a snapshot that is made now shows.
+    fn late_told(&self, told: &mut Told, asked: &Asked<'_>) {
+        if asked.version > self.book.len() {
+            return told.fail(Trouble::OutOfRange);
+        }
+        match self.book.snapshot(asked.version) {
+            Ok(late) => seen_told(told, &late, asked),
+            Err(_) => told.fail(Trouble::NoMemory),
+        }
+    }
+
+    /// Compares what the entries show as a plain list.
+    fn list_compared(&self, told: &mut Told, asked: &Asked<'_>) {
+        let entries = self.entries.get(..asked.version as usize).unwrap_or(&[]);
+        match entries.to_vec(told.alloc) {
+            Ok(entries) => compared(told, &Listed::new(entries), asked),
+            Err(_) => told.fail(Trouble::NoMemory),
         }
     }
 }
 
-/// What a snapshot that is made now shows.
-fn late_told(alloc: Global, book: &Book, version: u64, call: &str, given: &str) -> Answer {
-    let late = first(book, version)?;
-    let told = seen_told(alloc, &late, call, given);
-    drop(late);
-    told
+/// Compares what has been told with what is seen here.
+fn compared<O: Observed>(told: &mut Told, seen: &O, asked: &Asked<'_>) {
+    let mut other = Told::new(told.alloc);
+    seen_told(&mut other, seen, asked);
+    if other.bytes != told.bytes || other.trouble.is_some() {
+        told.text(", but otherwise ");
+        told.bytes(&other.bytes);
+    }
 }
 
-/// What entries as a plain list show.
-fn list_told(alloc: Global, entries: &[Obs], call: &str, given: &str) -> Answer {
-    let listed = Listed::new(entries.to_vec(alloc)?);
-    let told = seen_told(alloc, &listed, call, given);
-    drop(listed);
-    told
+/// Tells what is seen: a value, a contract's events by their places, or an entry.
+fn seen_told<O: Observed>(told: &mut Told, seen: &O, asked: &Asked<'_>) {
+    if seen.version() != asked.version {
+        told.text("another version, ");
+    }
+    match (asked.call, asked.day, u32::try_from(asked.number)) {
+        ("value", Some(day), Ok(code)) => told.units(seen.value(code, day)),
+        ("events", _, Ok(contract)) => events_told(told, seen, contract),
+        ("value" | "events", _, Err(_)) => told.fail(Trouble::OutOfRange),
+        ("entry", _, _) => found_told(told, seen.entry(asked.number)),
+        _ => told.fail(Trouble::NoCall),
+    }
 }
 
-fn appended_told(alloc: Global, answer: Result<u64, BookFault>) -> Answer {
+/// Tells an entry, whose code or contract stands by its number, or `none`.
+fn found_told(told: &mut Told, found: Option<Obs>) {
+    let names = Names::new(told.alloc);
+    match found {
+        Some(entry) => entry_told(told, &names, entry),
+        None => told.text("none"),
+    }
+}
+
+/// Tells the places of a contract's events, or `none`.
+fn events_told<O: Observed>(told: &mut Told, seen: &O, contract: u32) {
+    match seen.events_of(told.alloc, contract) {
+        Ok(events) => places_told(told, seen, &events),
+        Err(_) => told.fail(Trouble::NoMemory),
+    }
+}
+
+/// Tells the places at which the events stand among the entries, and how many stand nowhere.
+fn places_told<O: Observed>(told: &mut Told, seen: &O, events: &[Obs]) {
+    let mut rest = events;
+    for place in 0..seen.version() {
+        if let [event, behind @ ..] = rest {
+            if seen.entry(place) == Some(*event) {
+                told.next(" ");
+                told.value(place);
+                rest = behind;
+            }
+        }
+    }
+    if events.is_empty() {
+        told.text("none");
+    }
+    if !rest.is_empty() {
+        told.text(", and events that are no entry");
+    }
+}
+
+fn appended_told(told: &mut Told, answer: Result<u64, BookFault>) {
     match answer {
-        Ok(version) => number(alloc, i128::from(version)),
-        Err(BookFault::BookFull) => {
-            let fault = BookFault::BookFull as u8;
-            Ok(format!(in alloc; "full {fault}")?.into_bytes())
+        Ok(version) => told.value(version),
+        Err(fault) => {
+            told.value(fault);
+            told.text(" ");
+            told.value(fault as u8);
         }
-        Err(BookFault::NoMemory) => Err(Trouble::NoMemory),
     }
-}
-
-/// The first entries of a book.
-fn first(book: &Book, version: u64) -> Result<Snapshot, Trouble> {
-    if version > book.len() {
-        return Err(Trouble::OutOfRange);
-    }
-    Ok(book.snapshot(version)?)
 }
 
 /// Whether it is a credit event.
@@ -114,120 +196,46 @@ fn is_credit(kind: ObsKind) -> bool
 }
 
 /// The entry that words stand for: `rate` or what was done, a number, a day and units.
-fn entry_of(words: &mut Words<'_>) -> Result<Obs, Trouble>
-    ensures { IfOk result (λ entry. is_entry entry ≡ true) }
+fn entry_of(words: &mut Words<'_>) -> Option<Obs>
+    ensures { IfSome result (λ entry. is_entry entry ≡ true) }
 {
-    let sort = words.next()?;
-    let (whose, day, value) = (words.count()?, words.day()?, words.fixed()?);
+    let sort = words.word();
+    let (whose, day, value) = (words.count(), words.day()?, words.fixed());
     if sort == "rate" {
-        return Ok(Obs::Rate {
+        return Some(Obs::Rate {
             code: whose,
             day,
             value,
         });
     }
     let kind = kind_of(sort)?;
-    let value = if is_credit(kind) { Fixed::ZERO } else { value };
-    Ok(Obs::Event {
+    Some(Obs::Event {
         contract: whose,
         kind,
         day,
-        value,
+        value: if is_credit(kind) { Fixed::ZERO } else { value },
     })
 }
 
-fn kind_of(word: &str) -> Result<ObsKind, Trouble> {
-    match word {
-        "PP" => Ok(ObsKind::PP),
-        "DV" => Ok(ObsKind::DV),
-        "XD" => Ok(ObsKind::XD),
-        "DL" => Ok(ObsKind::DL),
-        "DQ" => Ok(ObsKind::DQ),
-        "DF" => Ok(ObsKind::DF),
-        _ => Err(Trouble::OtherWord),
-    }
+fn kind_of(word: &str) -> Option<ObsKind> {
+    Some(match word {
+        "PP" => ObsKind::PP,
+        "DV" => ObsKind::DV,
+        "XD" => ObsKind::XD,
+        "DL" => ObsKind::DL,
+        "DQ" => ObsKind::DQ,
+        "DF" => ObsKind::DF,
+        _ => return None,
+    })
 }
 
-/// What is seen: a value, a contract's events by their places, or an entry.
-fn seen_told<O: Observed>(alloc: Global, seen: &O, call: &str, given: &str) -> Answer {
-    let mut words = Words::of(given);
-    if seen.version() != words.place()? {
-        return text(alloc, "another version");
+/// Tells what a book that has an entry so many times answers to one more.
+fn full_book(told: &mut Told, words: &mut Words<'_>) {
+    let count = words.count();
+    let mut book = Book::new(told.alloc);
+    if let Some(entry) = entry_of(words) {
+        appended_told(told, append_all(&mut book, &entry, count));
     }
-    match call {
-        "value" => {
-            let (code, day) = (words.count()?, words.day()?);
-            units(alloc, seen.value(code, day))
-        }
-        "events" => events_told(alloc, seen, words.count()?),
-        _ => entry_told(alloc, seen.entry(words.place()?)),
-    }
-}
-
-/// The places of a contract's events.
-fn events_told<O: Observed>(alloc: Global, seen: &O, contract: u32) -> Answer {
-    let events = seen.events_of(alloc, contract)?;
-    let mut told = Vec::new(alloc);
-    let mut rest = events.iter();
-    let mut event = rest.next();
-    for place in 0..seen.version() {
-        if event.is_some() && seen.entry(place) == event.copied() {
-            push_place(alloc, &mut told, place)?;
-            event = rest.next();
-        }
-    }
-    if event.is_some() {
-        return text(alloc, "an event that is no entry");
-    }
-    if told.is_empty() {
-        return text(alloc, "none");
-    }
-    Ok(told)
-}
-
-/// Adds a place, behind a space where it isn't the first.
-fn push_place(alloc: Global, told: &mut Vec<u8>, place: u64) -> Result<(), AllocError> {
-    if !told.is_empty() {
-        told.extend_from_slice(b" ")?;
-    }
-    told.extend_from_slice(format!(in alloc; "{place}")?.as_bytes())
-}
-
-fn entry_told(alloc: Global, found: Option<Obs>) -> Answer {
-    let Some(entry) = found else {
-        return text(alloc, "none");
-    };
-    let mut told = match entry {
-        Obs::Rate { code, .. } => format!(in alloc; "rate {code} ")?.into_bytes(),
-        Obs::Event { contract, kind, .. } => {
-            format!(in alloc; "{kind:?} {contract} ")?.into_bytes()
-        }
-    };
-    push_day_and_units(alloc, &mut told, entry)?;
-    Ok(told)
-}
-
-fn push_day_and_units(alloc: Global, told: &mut Vec<u8>, entry: Obs) -> Result<(), AllocError> {
-    let (Obs::Rate { day, value, .. } | Obs::Event { day, value, .. }) = entry;
-    push_day(told, day)?;
-    let units = value.units();
-    told.extend_from_slice(format!(in alloc; " {units}")?.as_bytes())
-}
-
-/// What a book that has an entry so many times answers to one more.
-fn full_book(alloc: Global, given: &str) -> Answer {
-    let count = Words::of(given).count()?;
-    let entry = entry_of(&mut Words::of("rate 1 2020-06-01 5"))?;
-    repeated(alloc, &entry, count)
-}
-
-fn repeated(alloc: Global, entry: &Obs, count: u32) -> Answer
-    requires { is_entry entry.now ≡ true }
-{
-    let mut book = Book::new(alloc);
-    let answer = append_all(&mut book, entry, count);
-    drop(book);
-    appended_told(alloc, answer)
 }
 
 /// The answer to the last entry where one is appended so many times and once more.

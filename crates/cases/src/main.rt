@@ -2,130 +2,217 @@
 //! how many rows each table has. It ends with 1 where a row differs.
 #![tactic(auto)]
 
-mod answers;
 mod book;
+mod changes;
 mod commands;
 mod contracts;
 mod days;
-mod fields;
-mod generated;
+mod json;
 mod naming;
 mod numbers;
 mod outside;
 mod references;
-mod schedules;
 mod scripts;
 mod shadows;
 mod signs;
-mod stored;
+mod steps;
 mod table;
 mod texts;
+mod told;
 mod trouble;
 mod weights;
 mod words;
 
 use act_io::{Files, RealFiles};
-use answers::answer;
 use book::Shelf;
-use commands::status_and_lines;
-use signs::bytes_of;
-use std::alloc::{AllocError, Global};
+use std::alloc::Global;
 use std::process::ExitCode;
 use std::{env, io, str};
-use stored::fetched;
-use table::{Parts, Row, rows};
+use table::{Parts, Row, push_rows};
+use told::Told;
 use trouble::Trouble;
+use words::Words;
 
 fn main(rt: HostRuntime) -> io::Result<ExitCode> {
+    let names = env::args(&rt)?.skip(1);
     let mut files = RealFiles::new(&rt);
+    let mut report = Told::new(rt.alloc());
     let mut differ = 0_u64;
-    for name in env::args(&rt)?.skip(1) {
-        let counts = go_over(&rt, rt.alloc(), &mut files, name.as_str())?;
-        let (all, lost) = (counts.rows, counts.differ);
-        println!(rt; "{name}: {all} rows, {lost} differ")?;
-        differ = differ.saturating_add(lost);
+    for name in names {
+        differ = differ.saturating_add(go_over(&mut report, &mut files, name.as_str()));
     }
-    Ok(ExitCode::from(u8::from(differ > 0)))
+    let is_well = differ == 0 && report.trouble.is_none();
+    match print_report(&rt, &report) {
+        Ok(()) => Ok(ExitCode::from(u8::from(!is_well))),
+        Err(error) => Err(error),
+    }
 }
 
-/// How many rows a table has, and how many of them differ.
-#[derive(Clone, Copy)]
-struct Counts {
-    rows: u64,
-    differ: u64,
+/// Prints what has been reported.
+fn print_report(rt: &impl Print, report: &Told) -> io::Result<()> {
+    let text = String::from_utf8_lossy(report.alloc, &report.bytes)?;
+    print!(rt; "{text}")
 }
 
-/// Goes over the table of that name.
-fn go_over<F: Files>(
-    rt: &impl Print,
-    alloc: Global,
+/// Goes over the table of that name, reports on it, and answers how many rows differ.
+fn go_over<F: Files>(report: &mut Told, files: &mut F, name: &str) -> u64 {
+    let mut words = Words::of(report.alloc, name);
+    let rows = rows_of(&mut words, files, name);
+    table_told(report, files, name, &rows, words.trouble)
+}
+
+/// Goes over the rows of a table that was read without trouble.
+fn table_told<F: Files>(
+    report: &mut Told,
     files: &mut F,
     name: &str,
-) -> io::Result<Counts> {
-    let mut counts = Counts { rows: 0, differ: 0 };
-    let rows = match rows_of(alloc, files, name) {
-        Ok(rows) => rows,
-        Err(trouble) => {
-            println!(rt; "{name}: {trouble:?}")?;
-            return Ok(Counts { rows: 0, differ: 1 });
-        }
-    };
-    let mut shelf = Shelf::new(alloc);
-    for row in &rows {
-        counts.rows = counts.rows.saturating_add(1);
-        let line = row.line;
-        match difference(alloc, files, &mut shelf, row) {
-            Ok(None) => continue,
-            Ok(Some(told)) => println!(rt; "{name}:{line}: {told}")?,
-            Err(trouble) => println!(rt; "{name}:{line}: {trouble:?}")?,
-        }
-        counts.differ = counts.differ.saturating_add(1);
+    rows: &[Row],
+    trouble: Option<Trouble>,
+) -> u64 {
+    if let Some(trouble) = trouble {
+        trouble_told(report, name, 0, trouble);
+        return 1;
     }
-    Ok(counts)
+    let differ = rows_gone_over(report, files, name, rows);
+    report.text(name);
+    report.text(": ");
+    report.value(rows.len());
+    report.text(" rows, ");
+    report.value(differ);
+    report.text(" differ\n");
+    differ
 }
 
 /// The rows of a file.
-fn rows_of<F: Files>(alloc: Global, files: &mut F, name: &str) -> Result<Vec<Row>, Trouble> {
-    let bytes = fetched(alloc, files, name)?;
+fn rows_of<F: Files>(words: &mut Words<'_>, files: &mut F, name: &str) -> Vec<Row> {
+    let bytes = words.file(files, name);
+    let mut rows = Vec::new(words.alloc);
     match str::from_utf8(&bytes) {
-        Ok(text) => Ok(rows(alloc, text)?),
-        Err(_) => Err(Trouble::OtherSigns),
+        Ok(text) if push_rows(words.alloc, &mut rows, text).is_ok() => {}
+        Ok(_) => words.fail(Trouble::NoMemory),
+        Err(_) => words.fail(Trouble::OtherSigns),
     }
+    rows
 }
 
-/// What a row's call is given, with the first line that differs, or None where its answer is what is wanted.
-fn difference<F: Files>(
-    alloc: Global,
+/// How many rows differ.
+fn rows_gone_over<F: Files>(report: &mut Told, files: &mut F, name: &str, rows: &[Row]) -> u64 {
+    let mut shelf = Shelf::new(report.alloc);
+    let mut differ = 0_u64;
+    for row in rows {
+        if differs(report, files, &mut shelf, name, row) {
+            differ = differ.saturating_add(1);
+        }
+    }
+    differ
+}
+
+/// Whether a row's call answers something else than what is wanted, which is reported.
+fn differs<F: Files>(
+    report: &mut Told,
     files: &mut F,
     shelf: &mut Shelf,
+    name: &str,
     row: &Row,
-) -> Result<Option<String>, Trouble> {
-    let parts = row.parts().ok_or(Trouble::NothingWanted)?;
-    let got = answer(alloc, files, shelf, parts.call, parts.given)?;
-    let wanted = wanted(alloc, files, parts.wanted)?;
-    if got == wanted {
-        return Ok(None);
+) -> bool {
+    let Some(parts) = row.parts() else {
+        trouble_told(report, name, row.line, Trouble::NothingWanted);
+        return true;
+    };
+    let (mut got, mut wanted) = (Told::new(report.alloc), Told::new(report.alloc));
+    let mut words = Words::of(report.alloc, parts.given);
+    answer(&mut got, &mut words, files, shelf, name, parts.call);
+    wanted_told(&mut wanted, &mut words, files, parts.wanted);
+    let trouble = words.trouble.or(got.trouble).or(wanted.trouble);
+    if let Some(trouble) = trouble {
+        trouble_told(report, name, row.line, trouble);
+    } else if got.bytes != wanted.bytes {
+        difference_told(report, name, row.line, parts, &wanted.bytes, &got.bytes);
     }
-    let got = String::from_utf8_lossy(alloc, &got)?;
-    let wanted = String::from_utf8_lossy(alloc, &wanted)?;
-    Ok(Some(told(alloc, parts, wanted.as_str(), got.as_str())?))
+    trouble.is_some() || got.bytes != wanted.bytes
 }
 
-/// What a row's call is given, and the first line that differs.
-fn told(alloc: Global, parts: Parts<'_>, wanted: &str, got: &str) -> Result<String, AllocError> {
-    let (call, given) = (parts.call, parts.given.lines().next().unwrap_or(""));
+/// Tells what the call of that name answers, of those that a table has.
+fn answer<F: Files>(
+    told: &mut Told,
+    words: &mut Words<'_>,
+    files: &mut F,
+    shelf: &mut Shelf,
+    table: &str,
+    call: &str,
+) {
+    match table {
+        "numbers.txt" => numbers::answer(told, words, call),
+        "days.txt" | "business-days.txt" | "schedules.txt" | "annuities.txt" => {
+            days::answer(told, words, call)
+        }
+        "json.txt" => json::answer(told, words, call),
+        "names.txt" => naming::answer(told, words, call),
+        "book.txt" => shelf.answer(told, words, call),
+        "references.txt" => references::answer(told, words, call),
+        "scripts.txt" => scripts::answer(told, words, files, call),
+        "weights.txt" => weights::answer(told, words, call),
+        "texts.txt" => texts::answer(told, words, files, call),
+        "outside.txt" | "generator.txt" => outside::answer(told, words, call),
+        _ => commands::answer(told, words, files, call),
+    }
+}
+
+/// Tells what is wanted: bytes, those of a file behind `@`, or a status and the lines of a file.
+fn wanted_told<F: Files>(told: &mut Told, words: &mut Words<'_>, files: &mut F, text: &str) {
+    match (text.strip_prefix("@"), text.split_once(" @")) {
+        (Some(name), _) => told.bytes(&words.file(files, name)),
+        (None, Some((status, name))) => {
+            told.text(status);
+            told.lines(&words.file(files, name));
+        }
+        (None, None) => told.bytes(&words.bytes_of(text)),
+    }
+}
+
+/// Reports the trouble of a row.
+fn trouble_told(report: &mut Told, name: &str, line: usize, trouble: Trouble) {
+    place_told(report, name, line);
+    report.value(trouble);
+    report.text("\n");
+}
+
+/// Reports where a row stands.
+fn place_told(report: &mut Told, name: &str, line: usize) {
+    report.text(name);
+    report.text(":");
+    report.value(line);
+    report.text(": ");
+}
+
+/// Reports what a row's call is given, and the first line that differs.
+fn difference_told(
+    report: &mut Told,
+    name: &str,
+    line: usize,
+    parts: Parts<'_>,
+    wanted: &[u8],
+    got: &[u8],
+) {
     let place = first_difference(wanted, got);
-    let wanted = wanted.lines().nth(place).unwrap_or("nothing");
-    let got = got.lines().nth(place).unwrap_or("nothing");
-    let line = place.saturating_add(1);
-    format!(in alloc; "{call} {given}: line {line} is to be {wanted}, and is {got}")
+    place_told(report, name, line);
+    report.text(parts.call);
+    report.text(" ");
+    report.text(parts.given.lines().next().unwrap_or(""));
+    report.text(": line ");
+    report.value(place.saturating_add(1));
+    report.text(" is to be ");
+    report.bytes(line_at(wanted, place));
+    report.text(", and is ");
+    report.bytes(line_at(got, place));
+    report.text("\n");
 }
 
-/// The place of the first line in which two texts differ, or the number of lines where none does.
-fn first_difference(wanted: &str, got: &str) -> usize {
-    let mut others = got.lines();
+/// The place of the first line in which two texts differ.
+fn first_difference(wanted: &[u8], got: &[u8]) -> usize {
     let mut place = 0_usize;
-    for line in wanted.lines() {
+    let mut others = got.split(|byte| *byte == b'\n');
+    for line in wanted.split(|byte| *byte == b'\n') {
         if others.next() != Some(line) {
             break;
         }
@@ -134,13 +221,9 @@ fn first_difference(wanted: &str, got: &str) -> usize {
     place
 }
 
-/// What is wanted: bytes, those of a file behind `@`, or a status and the lines of a file.
-fn wanted<F: Files>(alloc: Global, files: &mut F, text: &str) -> Result<Vec<u8>, Trouble> {
-    if let Some(name) = text.strip_prefix("@") {
-        return fetched(alloc, files, name);
-    }
-    match text.split_once(" @") {
-        Some((status, name)) => status_and_lines(alloc, status, &fetched(alloc, files, name)?),
-        None => bytes_of(alloc, text),
-    }
+/// The line at a place from 0.
+fn line_at(text: &[u8], place: usize) -> &[u8] {
+    text.split(|byte| *byte == b'\n')
+        .nth(place)
+        .unwrap_or(b"nothing")
 }

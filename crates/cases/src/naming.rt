@@ -1,135 +1,91 @@
 //! Names and their numbers.
-use crate::answers::Answer;
+use crate::told::Told;
 use crate::trouble::Trouble;
 use crate::words::Words;
-use act_model::{Names, is_name};
-use std::alloc::{AllocError, Global};
+use act_model::{Names, is_currency, is_name};
+use std::str;
 
 /// The last number that a name may get.
 const LAST: u32 = 0x3FFF_FFFF;
 
-/// What a call answers, or None of a call of another module.
-pub fn answer(alloc: Global, call: &str, given: &str) -> Option<Answer> {
-    match call {
-        "names" => Some(numbered(alloc, given)),
-        _ => None,
+/// Tells what a call answers.
+pub fn answer(told: &mut Told, words: &mut Words<'_>, call: &str) {
+    if call == "names" {
+        return numbered(told, words);
+    }
+    let bytes = words.bytes();
+    match str::from_utf8(&bytes) {
+        Ok(name) if call == "is_name" => told.value(is_name(name)),
+        Ok(name) if call == "is_currency" => told.value(is_currency(name)),
+        Ok(_) => told.fail(Trouble::NoCall),
+        Err(_) => told.fail(Trouble::OtherWord),
     }
 }
 
-/// Adds a contract's name, which isn't there yet.
-#[tactic(auto, using(std::proofs::lemmas::Option::slice_get_cases))]
-pub fn add_contract(names: &mut Names, id: &str) -> Result<u32, Trouble> {
-    if names.id(LAST).is_some() || names.contract(id).is_some() {
-        return Err(Trouble::OutOfRange);
-    }
-    if !is_name(id) || id == "*" {
-        return Err(Trouble::OtherWord);
-    }
-    Ok(names.add_contract(id)?)
-}
-
-/// Gives the number of a market object's name.
-#[tactic(auto, using(std::proofs::lemmas::Option::slice_get_cases))]
-pub fn intern_code(names: &mut Names, code: &str) -> Result<u32, Trouble> {
-    if names.code(LAST).is_some() || !is_name(code) {
-        return Err(Trouble::OtherWord);
-    }
-    Ok(names.intern_code(code)?)
-}
-
-/// Gives the number of a currency's name.
-#[tactic(auto, using(std::proofs::lemmas::Option::slice_get_cases))]
-pub fn intern_currency(names: &mut Names, currency: &str) -> Result<u32, Trouble> {
-    if names.currency(LAST).is_some() || !is_name(currency) {
-        return Err(Trouble::OtherWord);
-    }
-    Ok(names.intern_currency(currency)?)
-}
-
-/// The number of a contract, which is added where it isn't there yet.
-fn contract(names: &mut Names, id: &str) -> Result<u32, Trouble> {
-    match names.contract(id) {
-        Some(number) => Ok(number),
-        None => add_contract(names, id),
-    }
-}
-
-/// The numbers of names that are given or looked for one after the other, and then the names by number.
-fn numbered(alloc: Global, given: &str) -> Answer {
-    let mut names = Names::new(alloc);
-    let told = numbers_of(alloc, &mut names, given);
-    drop(names);
-    Ok(told?.into_bytes())
-}
-
-/// The numbers of names that are given or looked for, and then the names.
-fn numbers_of(alloc: Global, names: &mut Names, given: &str) -> Result<String, Trouble> {
-    let mut told = String::new(alloc);
-    for asked in given.split(", ") {
-        let number = number_of(names, asked)?;
-        push_number(alloc, &mut told, number)?;
-    }
-    push_all_names(&mut told, names)?;
-    Ok(told)
-}
-
-fn push_all_names(told: &mut String, names: &Names) -> Result<(), AllocError> {
-    push_names(told, names, "contracts")?;
-    push_names(told, names, "codes")?;
-    push_names(told, names, "currencies")
-}
-
-/// Adds a number, or a dash.
-fn push_number(alloc: Global, told: &mut String, found: Option<u32>) -> Result<(), AllocError> {
-    if !told.is_empty() {
-        told.push(' ')?;
-    }
-    match found {
-        Some(number) => told.push_str(&format!(in alloc; "{number}")?),
-        None => told.push('-'),
-    }
-}
-
-/// The name of that sort and number.
-fn name_of<'a>(names: &'a Names, sort: &str, number: u32) -> Option<&'a str> {
-    match sort {
-        "contracts" => names.id(number),
-        "codes" => names.code(number),
-        _ => names.currency(number),
-    }
-}
-
-/// Adds the names of a sort by number.
-fn push_names(told: &mut String, names: &Names, sort: &str) -> Result<(), AllocError> {
-    told.push_str("; ")?;
-    told.push_str(sort)?;
-    for number in 0..LAST {
-        match name_of(names, sort, number) {
-            Some(name) => {
-                told.push(' ')?;
-                told.push_str(name)?;
-            }
-            None if number == 0 => return told.push_str(" -"),
-            None => break,
+/// Tells the answers to words that are asked one after the other: `SORT:NAME` or `SORT:NUMBER`.
+fn numbered(told: &mut Told, words: &mut Words<'_>) {
+    let mut names = Names::new(words.alloc);
+    for asked in words.given.split_whitespace() {
+        let (sort, name) = asked.split_once(':').unwrap_or((asked, ""));
+        told.next(" ");
+        match sort {
+            "id" | "code_of" | "currency_of" => told.text(name_of(
+                &names,
+                sort,
+                words.count_of(name),
+            )),
+            "find_contract" => number_told(told, names.contract(name)),
+            "find_code" => number_told(told, names.find_code(name)),
+            "find_currency" => number_told(told, names.find_currency(name)),
+            _ => match number_of(&mut names, sort, name) {
+                Some(number) => told.value(number),
+                None => told.fail(Trouble::OtherWord),
+            },
         }
     }
-    if name_of(names, sort, u32::MAX).is_some() {
-        told.push_str(" and more")?;
-    }
-    Ok(())
 }
 
-/// The number of what is asked for: a sort of name and the name, behind `find` where it isn't to be added.
-fn number_of(names: &mut Names, asked: &str) -> Result<Option<u32>, Trouble> {
-    let mut words = Words::of(asked);
-    let (sort, name) = (words.next()?, words.next()?);
-    Ok(match (sort, name) {
-        ("contract", _) => Some(contract(names, name)?),
-        ("code", _) => Some(intern_code(names, name)?),
-        ("currency", _) => Some(intern_currency(names, name)?),
-        ("find", "contract") => names.contract(words.next()?),
-        ("find", "code") => names.find_code(words.next()?),
-        ("find", "currency") => names.find_currency(words.next()?),
-        _ => return Err(Trouble::OtherWord),
-    })
+/// The name of a number, or a dash.
+fn name_of<'a>(names: &'a Names, sort: &str, number: u32) -> &'a str {
+    let found = match sort {
+        "id" => names.id(number),
+        "code_of" => names.code(number),
+        _ => names.currency(number),
+    };
+    found.unwrap_or("-")
+}
+
+/// Tells a number, or a dash.
+fn number_told(told: &mut Told, found: Option<u32>) {
+    match found {
+        Some(number) => told.value(number),
+        None => told.text("-"),
+    }
+}
+
+/// The number that a name has, or gets.
+fn number_of(names: &mut Names, sort: &str, name: &str) -> Option<u32> {
+    match sort {
+        "contract" => names.contract(name).or(add(names, sort, name)),
+        _ => add(names, sort, name),
+    }
+}
+
+/// Gives the number of a contract's name that isn't there yet, of a code's or of a currency's; None where it isn't one.
+#[tactic(auto, using(std::proofs::lemmas::Option::slice_get_cases))]
+pub fn add(names: &mut Names, sort: &str, name: &str) -> Option<u32> {
+    let is_full = names.id(LAST).is_some()
+        || names.code(LAST).is_some()
+        || names.currency(LAST).is_some();
+    if is_full || !is_name(name) {
+        return None;
+    }
+    match sort {
+        "contract" if names.contract(name).is_none() && name != "*" => names
+            .add_contract(name)
+            .ok(),
+        "code" => names.intern_code(name).ok(),
+        "currency" => names.intern_currency(name).ok(),
+        _ => None,
+    }
 }

@@ -1,76 +1,105 @@
-//! Calls of files and a sink in memory.
-use crate::answers::Answer;
-use crate::signs::bytes_of;
+//! Calls of what isn't read in a portfolio: files and a sink in memory, and the generator of large portfolios and scripts.
+use crate::told::Told;
 use crate::trouble::Trouble;
-use crate::words::place;
-use act_io::{FetchFault, Files, MemFiles, MemSink, Sink};
-use std::alloc::{AllocError, Global};
+use crate::words::Words;
+use act_gen::{portfolio_bytes, script_bytes};
+use act_io::{Files, MemFiles, MemSink, Sink};
+use sha2::{Digest, Sha256};
+use std::alloc::Global;
 
-/// What a call answers, or None of a call of another module.
-pub fn answer(alloc: Global, call: &str, given: &str) -> Option<Answer> {
-    Some(match call {
-        "fetches" => fetches(alloc, given),
-        "puts" => puts(alloc, given),
-        _ => return None,
-    })
-}
-
-/// The numbers of calls that fail.
-pub fn calls_of(alloc: Global, text: &str) -> Result<Vec<u64>, Trouble> {
-    let mut calls = Vec::new(alloc);
-    for word in text.split_whitespace() {
-        calls.push(place(word)?)?;
-    }
-    Ok(calls)
-}
-
-/// What files in memory answer: the files, the calls that fail, and the names asked for with the limits.
-fn fetches(alloc: Global, given: &str) -> Answer {
-    let (stored, rest) = given.split_once("; ").ok_or(Trouble::NoWord)?;
-    let (fails, asked) = rest.split_once("; ").ok_or(Trouble::NoWord)?;
-    let mut list = Vec::new(alloc);
-    for file in stored.split_whitespace() {
-        let (name, text) = file.split_once('=').ok_or(Trouble::OtherWord)?;
-        list.push((String::from_str(alloc, name)?, bytes_of(alloc, text)?))?;
-    }
-    let mut files = MemFiles::new(alloc, list, calls_of(alloc, fails)?);
-    let mut told = Vec::new(alloc);
-    for call in asked.split_whitespace() {
-        let (name, limit) = call.split_once('/').ok_or(Trouble::OtherWord)?;
-        let limit = place(limit)?;
-        if !told.is_empty() {
-            told.extend_from_slice(b", ")?;
+/// Tells what a call answers.
+pub fn answer(told: &mut Told, words: &mut Words<'_>, call: &str) {
+    match call {
+        "fetches" => fetches(told, words),
+        "puts" => puts(told, words),
+        "generated_text" => generated(told, words),
+        "generated" => {
+            generated(told, words);
+            digest(told);
         }
-        push_fetched(&mut told, files.fetch(alloc, name, limit))?;
-    }
-    Ok(told)
-}
-
-fn push_fetched(told: &mut Vec<u8>, answer: Result<Vec<u8>, FetchFault>) -> Result<(), AllocError> {
-    match answer {
-        Ok(bytes) => told.extend_from_slice(&bytes),
-        Err(FetchFault::TooLong) => told.extend_from_slice(b"too long"),
-        Err(FetchFault::Failed) => told.extend_from_slice(b"failed"),
-        Err(FetchFault::NoMemory) => told.extend_from_slice(b"no memory"),
+        _ => told.fail(Trouble::NoCall),
     }
 }
 
-/// What a sink in memory answers, and what it holds then: the calls that fail, and the pieces.
-fn puts(alloc: Global, given: &str) -> Answer {
-    let (fails, pieces) = given.split_once("; ").ok_or(Trouble::NoWord)?;
-    let mut sink = MemSink::new(alloc, calls_of(alloc, fails)?);
-    let mut told = String::new(alloc);
-    for piece in pieces.split_whitespace() {
-        if !told.is_empty() {
-            told.push(' ')?;
-        }
-        match sink.put(&bytes_of(alloc, piece)?) {
-            Ok(count) => told.push_str(&format!(in alloc; "{count}")?)?,
-            Err(_) => told.push_str("failed")?,
+/// Tells the portfolio or the script of a number.
+fn generated(told: &mut Told, words: &mut Words<'_>) {
+    let (n, is_portfolio) = (words.count(), words.word() == "portfolio");
+    if n < 1 || n > 1000 {
+        return told.fail(Trouble::OutOfRange);
+    }
+    let text = match is_portfolio {
+        true => portfolio_bytes(told.alloc, n),
+        false => script_bytes(told.alloc, n),
+    };
+    match text {
+        Ok(text) => told.bytes(&text),
+        Err(_) => told.fail(Trouble::NoMemory),
+    }
+}
+
+/// Tells the length of what has been told, and its SHA-256 in hexadecimal, in its place.
+fn digest(told: &mut Told) {
+    let length = told.bytes.len();
+    let mut hasher = Sha256::new();
+    hasher.update(told.bytes.as_slice());
+    told.bytes.clear();
+    told.value(length);
+    told.text(" ");
+    for byte in hasher.finalize() {
+        told.hexadecimal(byte);
+    }
+}
+
+/// Adds a file.
+pub fn add_file(
+    words: &mut Words<'_>,
+    files: &mut Vec<(String, Vec<u8>)>,
+    name: &str,
+    bytes: Vec<u8>,
+) {
+    let is_added = match String::from_str(words.alloc, name) {
+        Ok(name) => files.push((name, bytes)).is_ok(),
+        Err(_) => false,
+    };
+    if !is_added {
+        words.fail(Trouble::NoMemory);
+    }
+}
+
+/// Tells what files in memory answer: the files, the calls that fail, and the names asked for with the limits.
+fn fetches(told: &mut Told, words: &mut Words<'_>) {
+    let fails = words.places();
+    let mut list = Vec::new(words.alloc);
+    for file in words.given.split_whitespace().skip(1) {
+        if let Some((name, text)) = file.split_once('=') {
+            let bytes = words.bytes_of(text);
+            add_file(words, &mut list, name, bytes);
         }
     }
-    told.push_str("; ")?;
-    let mut told = told.into_bytes();
-    told.extend_from_slice(sink.bytes())?;
-    Ok(told)
+    let mut files = MemFiles::new(words.alloc, list, fails);
+    for asked in words.given.split_whitespace().skip(1) {
+        if let Some((name, limit)) = asked.split_once('/') {
+            told.next(", ");
+            match files.fetch(words.alloc, name, words.place_of(limit)) {
+                Ok(bytes) => told.bytes(&bytes),
+                Err(fault) => told.value(fault),
+            }
+        } else if !asked.contains('=') {
+            words.fail(Trouble::OtherWord);
+        }
+    }
+}
+
+/// Tells what a sink in memory answers, and what it holds then: the calls that fail, and the pieces.
+fn puts(told: &mut Told, words: &mut Words<'_>) {
+    let mut sink = MemSink::new(words.alloc, words.places());
+    for piece in words.given.split_whitespace().skip(1) {
+        told.next(" ");
+        match sink.put(&words.bytes_of(piece)) {
+            Ok(count) => told.value(count),
+            Err(fault) => told.value(fault),
+        }
+    }
+    told.text("; ");
+    told.bytes(sink.bytes());
 }

@@ -1,5 +1,4 @@
 //! The rows of a table.
-use crate::trouble::Trouble;
 use std::alloc::{AllocError, Global};
 
 /// A row: a call, what it is given, and what it is to answer.
@@ -26,8 +25,8 @@ impl Row {
     /// Adds a line, without the spaces that it begins with. One that begins with the wanted answer is no line of its own.
     fn add(&mut self, line: &str) -> Result<(), AllocError> {
         let line = line.trim_start_matches(' ');
-        self.text
-            .push(if line.starts_with("= ") { ' ' } else { '\n' })?;
+        let between = if line.starts_with("= ") { " " } else { "\n" };
+        self.text.push_str(between)?;
         self.text.push_str(line)
     }
 
@@ -44,9 +43,8 @@ impl Row {
     }
 }
 
-/// The rows of a text. A line that begins with `#` is a comment, and one that begins with a space goes on with the row before it.
-pub fn rows(alloc: Global, text: &str) -> Result<Vec<Row>, AllocError> {
-    let mut rows: Vec<Row> = Vec::new(alloc);
+/// Adds the rows of a text. A line that begins with `#` is a comment, and one that begins with a space goes on with the row before it.
+pub fn push_rows(alloc: Global, rows: &mut Vec<Row>, text: &str) -> Result<(), AllocError> {
     for (place, line) in text.lines().enumerate() {
         if line.starts_with(' ') {
             if let Some(row) = rows.last_mut() {
@@ -59,5 +57,5 @@ pub fn rows(alloc: Global, text: &str) -> Result<Vec<Row>, AllocError> {
             })?;
         }
     }
-    Ok(rows)
+    Ok(())
 }

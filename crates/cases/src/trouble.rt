@@ -1,15 +1,13 @@
 //! Why a row's call wasn't made.
-use act_num::NoMemory;
-use std::alloc::{AllocError, AllocFailed};
 
 /// Why a row's call wasn't made.
-#[derive(Clone, Copy, Debug, PartialEq, Eq)]
+#[derive(Clone, Copy, Debug)]
 pub enum Trouble {
     /// Memory ran out.
     NoMemory,
     /// There is no such file.
     NoFile,
-    /// There is no call of that name.
+    /// There is no call of that name in this table.
     NoCall,
     /// A word lacks.
     NoWord,
@@ -21,22 +19,4 @@ pub enum Trouble {
     OtherSigns,
     /// No answer is wanted.
     NothingWanted,
-}
-
-impl From<AllocError> for Trouble {
-    fn from(_: AllocError) -> Trouble {
-        Trouble::NoMemory
-    }
-}
-
-impl<T: Drop> From<AllocFailed<T>> for Trouble {
-    fn from(_: AllocFailed<T>) -> Trouble {
-        Trouble::NoMemory
-    }
-}
-
-impl From<NoMemory> for Trouble {
-    fn from(_: NoMemory) -> Trouble {
-        Trouble::NoMemory
-    }
 }

@@ -1,4 +1,4 @@
-use Rattle.std.proofs.Common.{◌≡◌, Err, map, IfSome, zero, sym, rules}
+use Rattle.std.proofs.Common.{◌≡◌, Err, map, IfSome, zero, rules}
 use Rattle.std.proofs.lemmas.List.{at_drop_all}
 use Rattle.std.proofs.lemmas.Option.{IfSome_then}
 use Rattle.serde_json.specs.View.{view}
@@ -20,7 +20,7 @@ pub loop-number-preserved : goal.loop-number-preserved
 loop-number-preserved c =
     let here = left_from view c.args.contracts.now c.loop-number.number c.index-contracts-number.result c.loop-number-test.true c.index-contracts-number.is in
     let h = c.in_ok-next.ensures in
-    rw (c.push.ensures.items, sym c.in_ok-map_err.ensures.variant) (one_read _ _ _ _ _ _ _ _ _ c.loop-number.invariant here h.read h.contract h.grew)
+    rw c.in_ok-push.ensures.items (one_read _ _ _ _ _ _ _ _ _ c.loop-number.invariant here h.read h.contract h.grew)
 
 pub returns-clause-read : goal.returns-clause-read
 returns-clause-read c = all_read _ _ _ _ _ c.loop-number.invariant (at_drop_all (map view) _ _ c.loop-number-test.false)

@@ -1,4 +1,4 @@
-use Rattle.std.proofs.Common.{◌≡◌, Err, IfSome, map, zero, sym, rules}
+use Rattle.std.proofs.Common.{◌≡◌, Err, IfSome, map, zero, rules}
 use Rattle.std.proofs.lemmas.List.{at_drop_all}
 use Rattle.std.proofs.lemmas.Option.{IfSome_then}
 use Rattle.act_portfolio.specs.Reading.{plans_from}
@@ -17,7 +17,7 @@ returns-in_err-plan-clause-refused c =
 pub loop-place-preserved : goal.loop-place-preserved
 loop-place-preserved c =
     let here = left_from (λ n. n.terms) c.args.named.now c.loop-place.place c.index-named-place.result c.loop-place-test.true c.index-named-place.is in
-    rw (c.push.ensures.items, sym c.in_ok-map_err.ensures.variant) (one_planned _ _ _ _ _ _ _ c.loop-place.invariant here c.in_ok-plan.ensures.plan)
+    rw c.in_ok-push.ensures.items (one_planned _ _ _ _ _ _ _ c.loop-place.invariant here c.in_ok-plan.ensures.plan)
 
 pub returns-clause-plans : goal.returns-clause-plans
 returns-clause-plans c =

@@ -6,12 +6,12 @@ use Rattle.act_run.proofs.rows.rows_from.Goals as goal
 pub returns-in-Err-clause-run : goal.returns-in-Err-clause-run
 returns-in-Err-clause-run g c =
     rw c.close_of-close.ensures
-    (sym (taken_stop _ _ _ _ _ c.events.state c.events.event-index c.event-item.result c.in-Err.stop c.events.invariant.taken c.events-test.true c.event-item.is (sym c.next_row.ensures.row ∙ c.in-Err.is)))
+    (sym (taken_stop _ _ _ _ _ c.events.state c.events.event-index c.event-item.result c.in-Err.stop c.events.invariant.taken c.events-test.true c.event-item.is (sym c.next_row.ensures.value ∙ c.in-Err.is)))
 
 pub events-preserved : goal.events-preserved
 events-preserved g c = record {
-  taken = rw c.in_ok-push-in-Ok.ensures (taken_one _ _ _ _ _ c.events.state c.events.event-index c.event-item.result c.in-Ok.row c.events.invariant.taken c.events-test.true c.event-item.is (sym c.next_row.ensures.row ∙ c.in-Ok.is));
-  ticked = rw c.in_ok-push-in-Ok.ensures (omega (arith, length_push c.events.rows.items c.in-Ok.row, c.in-Ok.ensures.ticked));
+  taken = rw c.in_ok-push-in-Ok.ensures.items (taken_one _ _ _ _ _ c.events.state c.events.event-index c.event-item.result c.in-Ok.row c.events.invariant.taken c.events-test.true c.event-item.is (sym c.next_row.ensures.value ∙ c.in-Ok.is));
+  ticked = rw c.in_ok-push-in-Ok.ensures.items (omega (arith, length_push c.events.rows.items c.in-Ok.row, c.in-Ok.ensures.ticked));
 }
 
 pub returns-clause-run : goal.returns-clause-run

@@ -1,12 +1,12 @@
-use Rattle.std.proofs.Common.{rules, refl, string_bytes}
+use Rattle.std.proofs.Common.{rules, refl}
 use Rattle.act_terms.specs.Contract.{contract_type}
 use Rattle.act_terms.proofs.WithoutWant.{needed_text}
 use Rattle.act_terms.proofs.contract.contract_type.Goals as goal
 
 pub returns-in-Some : goal.returns-in-Some
 unfolding contract_type
-returns-in-Some c = λ ok. rw (needed_text string_bytes _ _ _ _ c.in_ok-text.ensures c.text.ensures, ← c.as_str.ensures.value, ← c.in-Some.ensures) refl
+returns-in-Some c = rw (needed_text (λ t. t.now) _ _ _ _ c.in_ok-text.ensures (λ want. c.text_in.ensures), ← c.in-Some.ensures) refl
 
-pub returns : goal.returns
+pub returns-in-None : goal.returns-in-None
 unfolding contract_type
-returns c = λ ok. rw (needed_text string_bytes _ _ _ _ c.in_ok-text.ensures c.text.ensures, ← c.as_str.ensures.value, ← c.in-None.ensures) (search rules)
+returns-in-None c = rw (needed_text (λ t. t.now) _ _ _ _ c.in_ok-text.ensures (λ want. c.text_in.ensures), ← c.in-None.ensures) (search rules)

@@ -1,4 +1,4 @@
-use Rattle.act_top.proofs.Texts.{writes-behind, writes-first}
+use Rattle.act_top.proofs.Texts.{failed-on, rose-behind, writes-behind, writes-first}
 use Rattle.act_top.proofs.answers.write_opening.Goals as goal
 
 pub returns-in_err-write_journal-clause-text : goal.returns-in_err-write_journal-clause-text
@@ -9,3 +9,9 @@ pub returns-clause-text : goal.returns-clause-text
 returns-clause-text g c =
     rw (← c.script.view_is) (writes-behind c.write_answers_head.result _ _ _ _ _ (rw c.deref.ensures.value at c.in_ok-write_journal.ensures.text)
     (rw (c.ask_count.ensures, c.deref-2.ensures.value) at c.write_answers_head.ensures.text))
+
+pub returns-in_err-write_journal-clause-failed : goal.returns-in_err-write_journal-clause-failed
+returns-in_err-write_journal-clause-failed g c = failed-on (Unit {0}) c.from_residual.result c.in_err-write_journal.field-0.0 _ c.from_residual.ensures.1 c.in_err-write_journal.ensures.failed
+
+pub returns-clause-failed : goal.returns-clause-failed
+returns-clause-failed g c is = rose-behind _ _ _ c.in_ok-write_journal.ensures.count (c.write_answers_head.ensures.failed is)

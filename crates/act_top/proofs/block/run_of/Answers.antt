@@ -4,10 +4,10 @@ use Rattle.std.proofs.lemmas.Result.{IfOk-weaker}
 use Rattle.act_top.proofs.Contracts.{at-place}
 use Rattle.act_top.proofs.block.run_of.Goals as goal
 
-pub evaluate-requires-clause-cycles : goal.evaluate-requires-clause-cycles
-evaluate-requires-clause-cycles g c =
+pub evaluate-requires-clause-built : goal.evaluate-requires-clause-built
+evaluate-requires-clause-built g c =
     let within : c.args.contract < length c.terms.result.now = rw c.terms.ensures.terms c.requires.contract in
-    c.terms.ensures.cycles c.args.contract c.index-terms-contract.result (slice_get_read c.terms.result.now _ c.args.contract c.index-terms-contract.result refl within c.index-terms-contract.is)
+    c.terms.ensures.built c.args.contract c.index-terms-contract.result (slice_get_read c.terms.result.now _ c.args.contract c.index-terms-contract.result refl within c.index-terms-contract.is)
 
 pub evaluate-requires-clause-plan : goal.evaluate-requires-clause-plan
 evaluate-requires-clause-plan g c =

@@ -1,7 +1,7 @@
-use Rattle.std.proofs.Common.{ap, ◌∙◌}
+use Rattle.std.proofs.Common.{ap, ◌∙◌, arith}
 use Rattle.act_model.specs.Run.{Stream}
 use Rattle.act_top.proofs.Blocks.{block-parts}
-use Rattle.act_top.proofs.Texts.{part-behind, part-first, then-text, writes-behind, writes-first}
+use Rattle.act_top.proofs.Texts.{failed-on, part-behind, part-first, rose-behind, then-text, writes-behind, writes-first}
 use Rattle.act_top.proofs.block.write_run.Goals as goal
 
 pub returns-in_err-write_block_head-clause-text : goal.returns-in_err-write_block_head-clause-text
@@ -22,3 +22,12 @@ returns-clause-text g c =
     let close = ap (λ (run : Stream). run.close) c.run.view_is in
     rw (block-parts c.args.names.now c.args.contract c.args.run.now)
     (writes-behind c.write_close.result _ _ _ _ _ (then-text _ _ _ _ _ c.in_ok-write_block_head.ensures.text (rw rows at c.in_ok-write_rows.ensures.text)) (rw close at c.write_close.ensures.text))
+
+pub returns-in_err-write_block_head-clause-failed : goal.returns-in_err-write_block_head-clause-failed
+returns-in_err-write_block_head-clause-failed g c = failed-on (Unit {0}) c.from_residual.result c.in_err-write_block_head.field-0.0 _ c.from_residual.ensures.1 c.in_err-write_block_head.ensures.failed
+
+pub returns-in_err-write_rows-clause-failed : goal.returns-in_err-write_rows-clause-failed
+returns-in_err-write_rows-clause-failed g c = failed-on (Unit {0}) c.from_residual-in_err-write_rows.result c.in_err-write_rows.field-0.0 _ c.from_residual-in_err-write_rows.ensures.1 (λ is. rose-behind _ _ _ c.in_ok-write_block_head.ensures.count (c.in_err-write_rows.ensures.failed is))
+
+pub returns-clause-failed : goal.returns-clause-failed
+returns-clause-failed g c is = rose-behind _ _ _ (omega (arith, c.in_ok-write_block_head.ensures.count, c.in_ok-write_rows.ensures.count)) (c.write_close.ensures.failed is)

@@ -3,7 +3,7 @@ use Rattle.act_model.specs.Names.{NameLists}
 use Rattle.act_model.specs.declared.terms.Terms.{Terms}
 use Rattle.act_text.specs.Lines.{name_of}
 use Rattle.act_top.proofs.Contracts.{at-place, contracts-next, contracts-past, name-at}
-use Rattle.act_top.proofs.Texts.{left-next, left-none, left-part, writes-part}
+use Rattle.act_top.proofs.Texts.{failed-on, left-all, left-next, left-none, left-part, never-failed, rose-behind, writes-part}
 use Rattle.act_top.proofs.check.write_contracts.Goals as goal
 
 pub returns-in_err-write_contract-clause-text : goal.returns-in_err-write_contract-clause-text
@@ -30,3 +30,12 @@ loop-contract-preserved g c =
 pub returns-clause-text : goal.returns-clause-text
 returns-clause-text g c =
     left-none _ _ _ _ c.loop-contract.invariant.text (contracts-past c.args.portfolio.now c.loop-contract.contract _ _ (omega (arith, c.named-contract-end.ensures.terms)))
+
+pub loop-contract-init : goal.loop-contract-init
+loop-contract-init g c = record { text = left-all _ _; count = omega arith }
+
+pub returns-in_err-write_contract-clause-failed : goal.returns-in_err-write_contract-clause-failed
+returns-in_err-write_contract-clause-failed g c = failed-on (Unit {0}) c.from_residual.result c.in_err-write_contract.field-0.0 _ c.from_residual.ensures.1 (λ is. rose-behind _ _ _ c.loop-contract.invariant.count (c.in_err-write_contract.ensures.failed is))
+
+pub returns-clause-failed : goal.returns-clause-failed
+returns-clause-failed g c = never-failed _ _

@@ -1,8 +1,8 @@
 use Rattle.std.proofs.Common.{◌≡◌, ◌+◌, ◌++◌, drop, length}
 use Rattle.std.specs.List.{count_by}
 use Rattle.act_model.specs.declared.journal.Line.{Line}
-use Rattle.act_script.specs.Step.{is_append}
-use Rattle.act_top.specs.Output.{book_of, items_of}
+use Rattle.act_model.specs.Journal.{is_append, book_of}
+use Rattle.act_top.specs.Output.{items_of}
 use Rattle.act_top.proofs.journal.book_of.Given as goal
 
 -- the entries of the steps from this one on are still to be added, and there is room for them

@@ -1,10 +1,10 @@
-use Rattle.std.proofs.Common.{◌≡◌, ◌<◌, ◌≤◌, None, List, get_or, length, sym, ap, subst, ◌∙◌, arith, rules}
+use Rattle.std.proofs.Common.{◌≡◌, ◌<◌, ◌≤◌, Bool, None, List, get_or, length, sym, ap, subst, ◌∙◌, arith, rules}
 use Rattle.std.specs.List.{count_by}
 use Rattle.act_model.specs.declared.journal.Line.{Line}
 use Rattle.act_top.specs.Output.{too_much_asked}
 use Rattle.act_top.specs.Ready.{Evaluation}
 use Rattle.act_top.proofs.Answering.{Answering, answering-all, answering-append, answering-ask, answering-none, answering-part, appends, book-length, responses-are, version-fits}
-use Rattle.act_top.proofs.Texts.{drop-next, drop-past, writes-part}
+use Rattle.act_top.proofs.Texts.{drop-next, drop-past, failed-on, never-failed, rose-behind, writes-part}
 use Rattle.act_top.proofs.evaluation.Evaluation.write_responses.Goals as goal
 use Rattle.act_top.proofs.evaluation.Evaluation.write_responses.Goals.{in-Append, in-Ask+in_ok-all_end-in-Ask}
 
@@ -73,3 +73,10 @@ returns-clause-ended g c =
     let past : length e.script.lines ≤ c.loop-step.step-index = omega (arith, c.loop-step-test.false, ap length lines_are) in
     let now = subst (λ (left : List Line). Answering e.portfolio e.script.names c.args.book.now e.script.lines left c.loop-step.number c.loop-step.version c.loop-step.ended (g.K.Sink.written c.args.out.now) (g.K.Sink.written c.loop-step.out)) (drop-past e.script.lines c.loop-step.step-index past) c.loop-step.invariant.answering in
     rw (responses-are e.portfolio e.script.names c.args.book.now e.script.lines c.requires) (answering-none e.portfolio e.script.names c.args.book.now e.script.lines _ _ _ _ _ now).1
+
+pub returns-in_err-all_end-in-Ask-clause-failed : goal.returns-in_err-all_end-in-Ask-clause-failed
+returns-in_err-all_end-in-Ask-clause-failed g c =
+    failed-on Bool c.from_residual.result c.in_err-all_end-in-Ask.field-0.0 _ c.from_residual.ensures.1 (λ is. rose-behind _ _ _ c.loop-step.invariant.count (c.in_err-all_end-in-Ask.ensures.failed is))
+
+pub returns-clause-failed : goal.returns-clause-failed
+returns-clause-failed g c = never-failed _ _

@@ -1,0 +1,18 @@
+-- How much there may be of what. This profile's own.
+use Rattle.std.specs.Prelude.{ℕ}
+
+-- the most bytes of a file: 64 MiB
+abbrev pub most_bytes : ℕ
+most_bytes = 67_108_864
+
+-- the most contracts of a portfolio
+abbrev pub most_contracts : ℕ
+most_contracts = 4096
+
+-- the most scheduled events of a contract, and the most redemptions of one
+abbrev pub most_dates : ℕ
+most_dates = 4096
+
+-- the most entries of a book, and of all scripts together
+abbrev pub most_entries : ℕ
+most_entries = 1_048_576

@@ -1,0 +1,13 @@
+//! How much there may be of what.
+
+/// The most bytes of a file: 64 MiB.
+pub const MOST_BYTES: u64 = 67_108_864;
+
+/// The most contracts of a portfolio.
+pub const MOST_CONTRACTS: usize = 4_096;
+
+/// The most scheduled events of a contract, and the most redemptions of one.
+pub const MOST_DATES: usize = 4_096;
+
+/// The most entries of a book, and of all scripts together.
+pub const MOST_ENTRIES: u64 = 1_048_576;

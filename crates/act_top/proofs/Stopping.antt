@@ -1,0 +1,93 @@
+-- What the status of a command that stopped says.
+use Rattle.std.proofs.Common.{◌≡◌, ℕ, List, Option, None, Some, Result, Ok, Err, IfOk, IfSome, IsSomeAnd, inl, inr, ◌⊎◌, refl, sym, subst, ◌∙◌}
+use Rattle.act_io.specs.Put.{written_after}
+use Rattle.act_top.specs.Asked.{AsksBy, NamesFile}
+use Rattle.act_top.specs.Command.{CommandWords, script_file}
+use Rattle.act_top.specs.Halts.{AsksFiles, OnUnread, halt_outcome}
+use Rattle.act_top.specs.Output.{read_outcome, status_of}
+use Rattle.act_top.specs.Written.{Writes}
+use Rattle.act_top.specs.declared.command.Verb.{Verb}
+use Rattle.act_top.specs.declared.command.Verb.TheVariants.{Eval, Check}
+use Rattle.act_top.specs.declared.halt.Halt.{Halt}
+use Rattle.act_top.specs.declared.halt.Halt.TheVariants as halt
+use Rattle.act_top.specs.declared.top.Status.{Status}
+use Rattle.act_top.specs.declared.top.Status.TheVariants.{Words, ReadFault, WriteFault}
+use Rattle.act_top.specs.declared.writing.Stop.{Stop}
+use Rattle.act_top.specs.declared.writing.Stop.TheVariants.{Sink as SinkStop, Memory}
+use Rattle.act_top.proofs.Outcomes.{asked-halt}
+
+-- ---- the command
+
+-- what holds of a command, where it is given
+pub on-command : (P : CommandWords → Type 0) (command : CommandWords) (given : Option CommandWords) → Some command ≡ given → P command → IfSome given P
+on-command P command given named here = subst (λ (g : Option CommandWords). IfSome g P) named here
+
+pub some-command : (P : CommandWords → Type 0) (command : CommandWords) (given : Option CommandWords) → Some command ≡ given → P command → IsSomeAnd given P
+some-command P command given named here = subst (λ (g : Option CommandWords). IsSomeAnd g P) named here
+
+-- a command that is given is there
+pub not-none : (command : CommandWords) (given : Option CommandWords) → Some command ≡ given → given ≡ None → ⊥
+not-none command given named none = cc
+
+-- ---- the status
+
+-- the line of a halt has the halt's status
+halt-status : (h : Halt) (written : Result Status Stop) (status : Status) → IfOk written (λ s. s ≡ (halt_outcome h).status) → status_of written ≡ status → (WriteFault ≡ status → ⊥) → (status_of (Err Memory) ≡ status → ⊥) → (halt_outcome h).status ≡ status
+halt-status h (Ok s) status is same not_sink not_memory = sym is ∙ same
+halt-status h (Err SinkStop) status is same not_sink not_memory = absurd (not_sink same)
+halt-status h (Err Memory) status is same not_sink not_memory = absurd (not_memory same)
+
+no-words : (h : Halt) → (halt_outcome h).status ≡ Words → ⊥
+no-words (halt.Unread line) is = cc
+no-words (halt.TooLong line) is = cc
+no-words (halt.PortfolioRefused line) is = cc
+no-words (halt.ScriptRefused line) is = cc
+no-words halt.Memory is = cc
+
+-- a command that stopped isn't the usage line
+pub not-words-halt : (h : Halt) (written : Result Status Stop) → IfOk written (λ s. s ≡ (halt_outcome h).status) → status_of written ≡ Words → ⊥
+not-words-halt h written is same = no-words h (halt-status h written Words is same (λ e. cc) (λ e. cc))
+
+unread-by : (A : Type 0) (h : Halt) (Failed : Type 0) → OnUnread {A = A} (Err h) Failed → (halt_outcome h).status ≡ ReadFault → Failed
+unread-by A (halt.Unread line) Failed failed is = failed
+unread-by A (halt.TooLong line) Failed failed is = absurd (cc)
+unread-by A (halt.PortfolioRefused line) Failed failed is = absurd (cc)
+unread-by A (halt.ScriptRefused line) Failed failed is = absurd (cc)
+unread-by A halt.Memory Failed failed is = absurd (cc)
+
+-- where a file wasn't read, reading failed
+pub unread-halt : (A : Type 0) (h : Halt) (written : Result Status Stop) (Failed : Type 0) → OnUnread {A = A} (Err h) Failed → IfOk written (λ s. s ≡ (halt_outcome h).status) → status_of written ≡ ReadFault → Failed
+unread-halt A h written Failed failed is same = unread-by A h Failed failed (halt-status h written ReadFault is same (λ e. cc) (λ e. cc))
+
+no-fault : (h : Halt) → (halt_outcome h).status ≡ WriteFault → ⊥
+no-fault (halt.Unread line) is = cc
+no-fault (halt.TooLong line) is = cc
+no-fault (halt.PortfolioRefused line) is = cc
+no-fault (halt.ScriptRefused line) is = cc
+no-fault halt.Memory is = cc
+
+-- where writing the line of a halt failed, the sink failed
+pub write-failed-halt : (h : Halt) (written : Result Status Stop) → IfOk written (λ s. s ≡ (halt_outcome h).status) → status_of written ≡ WriteFault → written ≡ Err SinkStop
+write-failed-halt h (Ok status) is same = absurd (no-fault h (sym is ∙ same))
+write-failed-halt h (Err SinkStop) is same = refl
+write-failed-halt h (Err Memory) is same = absurd (cc)
+
+-- ---- the line
+
+script-line : (verb : Verb) (script : Option (List ℕ)) (P Q : List ℕ → Type 0) → ((name : List ℕ) → P name → Q name) → IsSomeAnd (script_file verb script) P → IsSomeAnd script Q
+script-line Eval (Some name) P Q step some = step name some
+script-line Eval None P Q step some = absurd some
+script-line Check script P Q step some = absurd some
+
+names-one : (command : CommandWords) (before after : Option (List (List ℕ))) (earlier later : Option (List ℕ)) → NamesFile read_outcome command (λ line. later ≡ written_after earlier line) before after
+    → (later ≡ written_after earlier (read_outcome command.portfolio).text) ⊎ IsSomeAnd command.script (λ script. later ≡ written_after earlier (read_outcome script).text)
+names-one command before after earlier later (inl both) = inl both.1
+names-one command before after earlier later (inr some) = inr (script-line command.verb command.script _ (λ script. later ≡ written_after earlier (read_outcome script).text) (λ name both. both.1) some)
+
+-- where a file wasn't read, the line names the portfolio or the script
+pub line-names : (A : Type 0) (command : CommandWords) (h : Halt) (written : Result Status Stop) (before after : Option (List (List ℕ))) (earlier later : Option (List ℕ)) → AsksFiles {A = A} command (Err h) before after
+    → IfOk written (λ s. s ≡ (halt_outcome h).status) → Writes written (halt_outcome h).text earlier later → (h ≡ halt.Memory → written ≡ Err Memory) → status_of written ≡ ReadFault
+    → (later ≡ written_after earlier (read_outcome command.portfolio).text) ⊎ IsSomeAnd command.script (λ script. later ≡ written_after earlier (read_outcome script).text)
+line-names A command h written before after earlier later asked is text memory same =
+    names-one command before after earlier later
+    (subst (λ (s : Status). AsksBy command s (λ line. later ≡ written_after earlier line) before after) same (asked-halt A command h written before after earlier later asked is text memory))
