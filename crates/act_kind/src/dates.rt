@@ -1,14 +1,13 @@
 //! The dates of one type of event, before they are shifted to business days.
 ghost use Rattle.std.specs.Prelude.{◌≡◌, ◌<◌, ◌≤◌, ◌↔◌, int_lt, length, option_map, Some, slice_get, IfOk, IfErr, IfSome, IsSomeAnd, IsTrue};
 ghost use Rattle.std.specs.List.{prefix_len};
-ghost use Rattle.std.specs.Option.{ForSome};
 ghost use Rattle.act_kind.specs.Types.{IsAnswer};
 ghost use Rattle.act_profile.specs.Dates.{after, anchor_of, recurring, recurring_before, recurring_or_end, united, without};
 ghost use Rattle.act_profile.specs.Lists.{insert_once_by};
 ghost use Rattle.act_sched.specs.Schedule.{LeadsOn, dates_of};
 
 use act_date::{Cycle, Day, MonthRule, add_cycles};
-use act_model::PlanFault;
+use act_model::{MOST_DATES, PlanFault};
 use act_sched::{SchedFault, Schedule};
 use std::alloc::Global;
 
@@ -35,7 +34,7 @@ pub fn recurrence(
     })
 }
 
-/// The same, or the schedule of the end alone where there is neither an anchor nor a cycle.
+/// The same, or the schedule of the end alone where there is neither an anchor nor a cycle; None as there.
 pub fn recurrence_or_end(
     rule: MonthRule,
     exchange: Day,
@@ -63,10 +62,10 @@ pub fn recurring(
     anchor: Option<Day>,
     cycle: Option<Cycle>,
 ) -> Result<Vec<Day>, PlanFault>
-    requires { ForSome cycle (λ c. 1 ≤ c.count) }
+    requires { LeadsOn cycle }
     ensures answer { IsAnswer result (recurring rule exchange end anchor cycle) }
     ensures too_many { result ≡ Err PlanFault.TooManyDates →
-        IsSomeAnd (recurring rule exchange end anchor cycle) (λ dates. 4096 < length dates) }
+        IsSomeAnd (recurring rule exchange end anchor cycle) (λ dates. MOST_DATES < length dates) }
 {
     match recurrence(rule, exchange, end, anchor, cycle) {
         Some(schedule) => listed(alloc, schedule, None),
@@ -83,7 +82,7 @@ pub fn recurring_before(
     anchor: Option<Day>,
     cycle: Option<Cycle>,
 ) -> Result<Vec<Day>, PlanFault>
-    requires { ForSome cycle (λ c. 1 ≤ c.count) }
+    requires { LeadsOn cycle }
     ensures { IsAnswer result (recurring_before rule exchange end anchor cycle) }
 {
     match recurrence(rule, exchange, end, anchor, cycle) {
@@ -103,10 +102,10 @@ pub fn recurring_or_end_after(
     cycle: Option<Cycle>,
     day: Option<Day>,
 ) -> Result<Vec<Day>, PlanFault>
-    requires { ForSome cycle (λ c. 1 ≤ c.count) }
+    requires { LeadsOn cycle }
     ensures answer { IsAnswer result (option_map (after day) (recurring_or_end rule exchange end anchor cycle)) }
     ensures too_many { result ≡ Err PlanFault.TooManyDates →
-        IsSomeAnd (option_map (after day) (recurring_or_end rule exchange end anchor cycle)) (λ dates. 4096 < length dates) }
+        IsSomeAnd (option_map (after day) (recurring_or_end rule exchange end anchor cycle)) (λ dates. MOST_DATES < length dates) }
 {
     match recurrence_or_end(rule, exchange, end, anchor, cycle) {
         Some(schedule) => listed(alloc, schedule, day),
@@ -168,7 +167,7 @@ fn anchor_of(exchange: Day, anchor: Option<Day>, cycle: Option<Cycle>) -> Option
 fn listed(alloc: Global, schedule: Schedule, day: Option<Day>) -> Result<Vec<Day>, PlanFault>
     requires { LeadsOn schedule.cycle }
     ensures answer { IsAnswer result (Some (after day (dates_of schedule))) }
-    ensures too_many { result ≡ Err PlanFault.TooManyDates → 4096 < length (after day (dates_of schedule)) }
+    ensures too_many { result ≡ Err PlanFault.TooManyDates → MOST_DATES < length (after day (dates_of schedule)) }
 {
     match schedule.dates_after(alloc, day) {
         Ok(dates) => Ok(dates),

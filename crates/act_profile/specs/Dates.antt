@@ -11,7 +11,8 @@ use Rattle.act_model.specs.declared.run.PlanFault.TheVariants.{TooManyDates, Dat
 use Rattle.act_model.specs.declared.terms.Lam.{Lam}
 use Rattle.act_profile.specs.Lists.{insert_once_by}
 use Rattle.act_model.specs.Limits.{most_dates}
-use Rattle.act_sched.specs.Schedule.{schedule_dates}
+use Rattle.act_sched.specs.Schedule.{latest_in, schedule_dates}
+pub use Rattle.act_sched.specs.Schedule.{dates_but_for as without, later_dates as after}
 
 -- ---- dates that recur
 
@@ -36,18 +37,9 @@ dates_or_end rule end cycle (Some anchor) = schedule_dates (Some anchor) cycle e
 abbrev pub recurring_or_end : MonthRule → ℤ → ℤ → Option ℤ → Option Cycle → Option (List ℤ)
 recurring_or_end rule exchange end anchor cycle = option_map (dates_or_end rule end cycle) (anchor_of exchange anchor cycle)
 
--- the dates but for the end
-abbrev pub without : ℤ → List ℤ → List ℤ
-without end dates = filter (λ d. not (int_eq d end)) dates
-
 -- the dates of an anchor and a cycle before an end
 abbrev pub recurring_before : MonthRule → ℤ → ℤ → Option ℤ → Option Cycle → Option (List ℤ)
 recurring_before rule exchange end anchor cycle = option_map (without end) (recurring rule exchange end anchor cycle)
-
--- the dates after a day, where it is given
-abbrev pub after : Option ℤ → List ℤ → List ℤ
-after None dates = dates
-after (Some day) dates = filter (λ d. int_lt day d) dates
 
 -- the dates of both lists, ascending, each day once
 abbrev pub united : List ℤ → List ℤ → List ℤ
@@ -55,7 +47,7 @@ united dates others = fold (insert_once_by int_lt) dates others
 
 -- the latest of a first day and of those dates that aren't after a day
 abbrev pub latest_until : ℤ → ℤ → List ℤ → ℤ
-latest_until day first dates = fold int_max first (filter (λ d. int_le d day) dates)
+latest_until day first dates = latest_in day None first dates
 
 -- after the status date and not after the last day, where there is one
 abbrev pub is_within : ℤ → Option ℤ → ℤ → Bool

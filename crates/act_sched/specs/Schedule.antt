@@ -81,7 +81,7 @@ unfoldable pub schedule_dates : Option ℤ → Option Cycle → ℤ → MonthRul
 schedule_dates None cycle end rule = []
 schedule_dates (Some anchor) cycle end rule = if int_le anchor end then earlier_dates anchor cycle end rule ++ end ∷ [] else []
 
--- the same of what the dates follow from
+-- the dates of a schedule, by what they follow from
 abbrev pub dates_of : Schedule → List ℤ
 dates_of s = schedule_dates s.anchor s.cycle s.end s.rule
 

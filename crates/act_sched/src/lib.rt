@@ -4,4 +4,4 @@
 mod cycle_dates;
 mod schedule;
 
-pub use schedule::{SchedFault, Schedule, dates, dates_after};
+pub use schedule::{SchedFault, Schedule, dates};

@@ -76,33 +76,6 @@ pub fn dates(
     .dates_after(alloc, None)
 }
 
-/// The dates of a schedule after a day, ascending, each day once; all of them where no day is given.
-///
-/// `TooManyDates` comes exactly where there are more than 4,096 of these, unless memory runs out first: those
-/// that aren't after the day don't count.
-pub fn dates_after(
-    alloc: Global,
-    anchor: Option<Day>,
-    cycle: Option<Cycle>,
-    end: Day,
-    rule: MonthRule,
-    after: Option<Day>,
-) -> Result<Vec<Day>, SchedFault>
-    requires { ForSome cycle (λ c. 1 ≤ c.count) }
-    ensures list { IfOk result (λ dates. dates.items ≡ later_dates after (schedule_dates anchor cycle end rule)) }
-    ensures too_many { result ≡ Err SchedFault.TooManyDates →
-        4096 < length (later_dates after (schedule_dates anchor cycle end rule)) }
-    ensures within_limit { IfOk result (λ dates. length dates.items ≤ 4096) }
-{
-    Schedule {
-        anchor,
-        cycle,
-        end,
-        rule,
-    }
-    .dates_after(alloc, after)
-}
-
 impl Schedule {
     ghost use Rattle.act_sched.specs.Schedule.{dates_but_for, dates_of};
 
@@ -119,7 +92,7 @@ impl Schedule {
         }
     }
 
-    /// The dates after a day, ascending, each day once; all of them where no day is given.
+    /// The dates after a day, in their order; all of them where no day is given.
     ///
     /// `TooManyDates` comes exactly where there are more than 4,096 of these, unless memory runs out first: those
     /// that aren't after the day don't count.
@@ -127,8 +100,8 @@ impl Schedule {
         requires { LeadsOn self.cycle }
         ensures list { IfOk result (λ dates. dates.items ≡ later_dates after (dates_of self)) }
         ensures too_many { result ≡ Err SchedFault.TooManyDates →
-            4096 < length (later_dates after (dates_of self)) }
-        ensures within_limit { IfOk result (λ dates. length dates.items ≤ 4096) }
+            MOST_DATES < length (later_dates after (dates_of self)) }
+        ensures within_limit { IfOk result (λ dates. length dates.items ≤ MOST_DATES) }
     {
         let mut dates = Vec::new(alloc);
         'dates: for place in 0..MOST_DAYS {
@@ -244,8 +217,8 @@ impl Schedule {
 fn push_after(dates: &mut Vec<Day>, after: &Option<Day>, date: Day) -> Result<(), SchedFault>
     ensures added { IfOk result (λ _. dates.new.items ≡ dates.old.items ++ later_dates after.now (date ∷ [])) }
     ensures too_many { result ≡ Err SchedFault.TooManyDates →
-        4096 < length (dates.old.items ++ later_dates after.now (date ∷ [])) }
-    ensures within_limit { IfOk result (λ _. length dates.old.items ≤ 4096 → length dates.new.items ≤ 4096) }
+        MOST_DATES < length (dates.old.items ++ later_dates after.now (date ∷ [])) }
+    ensures within_limit { IfOk result (λ _. length dates.old.items ≤ MOST_DATES → length dates.new.items ≤ MOST_DATES) }
 {
     if !is_after(date, after) {
         return Ok(());

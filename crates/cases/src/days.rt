@@ -8,7 +8,7 @@ use act_date::{
     Cycle, CycleFault, Day, add_cycles, civil, is_business, month_end, parse_cycle, parse_day,
     parse_period, weekday, year_frac,
 };
-use act_sched::{dates, dates_after};
+use act_sched::{Schedule, dates};
 
 /// Tells what a call answers.
 pub fn answer(told: &mut Told, words: &mut Words<'_>, call: &str) {
@@ -102,7 +102,13 @@ fn schedule(told: &mut Told, words: &mut Words<'_>, call: &str) {
     };
     let found = match after {
         None => dates(words.alloc, anchor, cycle, end, rule),
-        after => dates_after(words.alloc, anchor, cycle, end, rule, after),
+        after => Schedule {
+            anchor,
+            cycle,
+            end,
+            rule,
+        }
+        .dates_after(words.alloc, after),
     };
     match found {
         Ok(dates) if call == "dates" => days_told(told, &dates),
