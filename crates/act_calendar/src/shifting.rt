@@ -6,7 +6,7 @@ use crate::days::{day_at, is_in_month};
 use act_date::{Calendar, Convention, Day, is_business, weekday};
 
 /// What a convention makes of a scheduled day.
-#[derive(Clone, Copy, Debug, PartialEq, Eq)]
+#[derive(Clone, Copy, PartialEq, Eq)]
 pub struct Shifted {
     /// The day of the event.
     pub day: Day,

@@ -5,7 +5,7 @@ ghost use Rattle.act_date.specs.Civil.{is_business};
 use crate::{Day, weekday};
 
 /// Which days are business days.
-#[derive(Clone, Copy, Debug, PartialEq, Eq)]
+#[derive(Clone, Copy, PartialEq, Eq)]
 pub enum Calendar {
     /// Every day.
     Nc,
@@ -17,7 +17,7 @@ pub enum Calendar {
 /// precedes it, and where "modified" and that one lies in another month, the other way. Amounts are
 /// calculated between the moved days where the shift comes first, and between the scheduled days where the
 /// calculation does.
-#[derive(Clone, Copy, Debug, PartialEq, Eq)]
+#[derive(Clone, Copy, PartialEq, Eq)]
 pub enum Convention {
     /// No shift.
     Nos,

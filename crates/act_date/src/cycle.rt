@@ -6,7 +6,7 @@ use crate::Day;
 use jiff::ToSpan;
 
 /// The length of each period of a schedule, and what becomes of a last period that isn't a whole cycle.
-#[derive(Clone, Copy, Debug, PartialEq, Eq)]
+#[derive(Clone, Copy, PartialEq, Eq)]
 pub struct Cycle {
     /// How many units a period has. At 0 all days of a schedule would be one.
     pub count: u16,
@@ -43,7 +43,7 @@ pub enum Stub {
 }
 
 /// Which days a schedule has that is counted in months and begins on the last day of a month.
-#[derive(Clone, Copy, Debug, PartialEq, Eq)]
+#[derive(Clone, Copy, PartialEq, Eq)]
 pub enum MonthRule {
     /// Same day: each has the day of the month of the first, or the last day of a shorter month.
     Sd,

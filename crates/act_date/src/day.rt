@@ -8,7 +8,7 @@ use jiff::civil::Date;
 use std::marker::Model;
 
 /// A civil day from 1900-01-01 to 2299-12-31, kept as the count of days from 1970-01-01.
-#[derive(Clone, Copy, Debug, PartialEq, Eq, PartialOrd, Ord)]
+#[derive(Clone, Copy, PartialEq, Eq, PartialOrd, Ord)]
 pub struct Day {
     number: i32,
 }

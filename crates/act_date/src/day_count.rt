@@ -11,7 +11,7 @@ use std::marker::Model;
 const LEAP_YEARS_BEFORE_1900: u32 = 460;
 
 /// How the fraction of a year between two days is counted.
-#[derive(Clone, Copy, Debug, PartialEq, Eq)]
+#[derive(Clone, Copy, PartialEq, Eq)]
 pub enum DayCount {
     /// A day of a common year is one of 365, and a day of a leap year one of 366.
     Aa,
@@ -29,7 +29,7 @@ pub enum DayCount {
 }
 
 /// A fraction of a year, which isn't reduced. Contracts see its two numbers as whole numbers from 0 on.
-#[derive(Clone, Copy, Debug, PartialEq, Eq)]
+#[derive(Clone, Copy, PartialEq, Eq)]
 pub struct Frac {
     /// The numerator, which isn't negative.
     pub num: i64,

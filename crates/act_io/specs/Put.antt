@@ -14,7 +14,7 @@ Puts piece before after (Ok n) = (n ≤ length piece) × (0 < length piece → 0
 Puts piece before after (Err fault) = after ≡ before
 
 -- the count of faults, one higher where writing failed
-abbrev pub put_faults : Result ℕ PutFault → ℕ → ℕ
+abbrev pub put_faults : {A : Type 0} → Result A PutFault → ℕ → ℕ
 put_faults (Err Failed) before = next_count before
 put_faults (Err NoMemory) before = before
-put_faults (Ok n) before = before
+put_faults (Ok answer) before = before

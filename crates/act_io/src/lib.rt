@@ -6,12 +6,14 @@ mod files;
 mod gate;
 mod memory_files;
 mod memory_sink;
-mod real;
+mod real_files;
 mod sink;
+mod std_sink;
 
 pub use files::{FetchFault, Files};
 pub use gate::{Gate, NoGate};
 pub use memory_files::MemFiles;
 pub use memory_sink::MemSink;
-pub use real::{RealFiles, StdSink};
+pub use real_files::RealFiles;
 pub use sink::{PutFault, Sink};
+pub use std_sink::StdSink;

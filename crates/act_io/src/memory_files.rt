@@ -1,8 +1,6 @@
 //! Files in memory.
 ghost use Rattle.std.specs.Prelude.{◌≡◌, ℕ, ◌≤◌, List, [], Some, Err, IfSome, IfOk, map, option_map, string_bytes, vec_len};
-ghost use Rattle.act_io.specs.declared.files.FetchFault.TheVariants.{Failed};
-ghost use Rattle.act_io.specs.Faults.{Rose};
-ghost use Rattle.act_io.specs.Fetch.{Fetches, names_after};
+ghost use Rattle.act_io.specs.Fetch.{Fetches, fetch_faults, names_after};
 ghost use Rattle.act_io.specs.Memory.{Answers, content_of, fetch_answer, files_after};
 
 use crate::{FetchFault, Files};
@@ -85,8 +83,7 @@ impl Files for MemFiles {
     fn fetch(&mut self, alloc: Global, name: &str, limit: u64) -> Result<Vec<u8>, FetchFault>
         ensures bytes { IfSome (content_of self.old.files name.now) (λ bytes. Fetches bytes limit result) }
         ensures within { IfOk result (λ bytes. vec_len bytes ≤ limit) }
-        ensures failed { result ≡ Err Failed → Rose self.old.faults self.new.faults }
-        ensures count { self.old.faults ≤ self.new.faults }
+        ensures faults { self.new.faults ≡ fetch_faults result self.old.faults }
         ensures asked { Some self.new.asked ≡ names_after result (Some self.old.asked) name.now }
         ensures same { self.new.files ≡ self.old.files }
         ensures answer { Answers result (fetch_answer self.old name.now limit) }

@@ -1,9 +1,8 @@
 //! A sink in memory.
 ghost use Rattle.std.specs.Prelude.{◌≡◌, ◌≢◌, ◌≤◌, [], Some, Ok, Err, length};
-ghost use Rattle.act_io.specs.declared.sink.PutFault.TheVariants.{Failed, NoMemory};
-ghost use Rattle.act_io.specs.Faults.{Rose};
+ghost use Rattle.act_io.specs.declared.sink.PutFault.TheVariants.{NoMemory};
 ghost use Rattle.act_io.specs.Memory.{put_answer, sink_after};
-ghost use Rattle.act_io.specs.Put.{Puts};
+ghost use Rattle.act_io.specs.Put.{Puts, put_faults};
 
 use crate::{PutFault, Sink};
 use std::alloc::Global;
@@ -59,8 +58,7 @@ impl Sink for MemSink {
     fn put(&mut self, piece: &[u8]) -> Result<usize, PutFault>
         ensures took { Puts piece.now (Some self.old.written) (Some self.new.written) result }
         ensures empty { length piece.now ≡ 0 → result ≡ Ok 0 }
-        ensures failed { result ≡ Err Failed → Rose self.old.faults self.new.faults }
-        ensures count { self.old.faults ≤ self.new.faults }
+        ensures faults { self.new.faults ≡ put_faults result self.old.faults }
         ensures answer { result ≢ Err NoMemory → result ≡ put_answer self.old piece.now }
         ensures after { self.new ≡ sink_after result self.old piece.now }
     {

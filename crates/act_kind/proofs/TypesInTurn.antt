@@ -4,7 +4,7 @@ use Rattle.std.proofs.lemmas.Bool.Decides.{nat_tests}
 use Rattle.std.proofs.lemmas.List.{drop_all, drop_more}
 use Rattle.std.proofs.lemmas.List.Elements.{All-tail}
 use Rattle.std.specs.Global.{Vec}
-use Rattle.act_kind.specs.Types.{AreTypes, IsCounted}
+use Rattle.act_kind.specs.Types.{AreTypes, IsCounted, first_fault, or_later}
 use Rattle.act_model.specs.declared.event.Event.{Event}
 use Rattle.act_model.specs.declared.run.PlanFault.{PlanFault}
 use Rattle.act_model.specs.declared.run.PlanFault.TheVariants.{TooManyDates, DateRange, NoMemory}
@@ -95,14 +95,44 @@ pub record AreLeft (common : Common) (answers : List (Result (Vec Planned) PlanF
 -- that holds for all types that the answers are of
 pub record HasTaken (common : Common) (answers : List (Result (Vec Planned) PlanFault)) (events : List Event) (k : ℕ) : Type 0 where
   pub within : length events ≤ 4096
+  pub faults : first_fault common 0 answers ≡ first_fault common (length events) (drop k answers)
   pub left : (types : List (Option (List Planned))) → AreTypes answers types → AreLeft common answers types events k
 
 pub taken_none : (common : Common) (answers : List (Result (Vec Planned) PlanFault)) → HasTaken common answers [] 0
 taken_none common answers =
     record {
       within = omega arith;
+      faults = refl;
       left = λ types are. record { left = types; are = are; is = behind-nil (events_by_type common 0 types); counted = λ counted. inr counted };
     }
+
+-- ---- the first fault
+
+fault-none : (common : Common) (n : ℕ) → first_fault common n [] ≡ None
+unfolding first_fault
+fault-none common n = refl
+
+fault-answer : (common : Common) (n : ℕ) (fault : PlanFault) (answers : List (Result (Vec Planned) PlanFault)) → first_fault common n (Err fault ∷ answers) ≡ Some fault
+unfolding first_fault
+fault-answer common n fault answers = refl
+
+fault-type : (common : Common) (n : ℕ) (dates : Vec Planned) (answers : List (Result (Vec Planned) PlanFault)) →
+    first_fault common n (Ok dates ∷ answers) ≡ or_later (type_events common n dates.items) (first_fault common (n + length dates.items) answers)
+unfolding first_fault
+fault-type common n dates answers = refl
+
+fault-dates : (common : Common) (n : ℕ) (dates : Vec Planned) (fault : PlanFault) (answers : List (Result (Vec Planned) PlanFault)) → type_events common n dates.items ≡ Err fault → first_fault common n (Ok dates ∷ answers) ≡ Some fault
+fault-dates common n dates fault answers is = fault-type common n dates answers ∙ ap (λ type. or_later type (first_fault common (n + length dates.items) answers)) is
+
+-- dates that have events leave the fault to the later types
+later-fault : (events next : List Event) (later : Option PlanFault) (type : Result (List Event) PlanFault) → behind events type ≡ Ok next → or_later type later ≡ later
+later-fault events next later (Ok more) is = refl
+later-fault events next later (Err fault) is = cc
+
+fault-behind : (common : Common) (events next : List Event) (dates : Vec Planned) (answers : List (Result (Vec Planned) PlanFault)) → behind events (type_events common (length events) dates.items) ≡ Ok next →
+    first_fault common (length events) (Ok dates ∷ answers) ≡ first_fault common (length events + length dates.items) answers
+fault-behind common events next dates answers added =
+    fault-type common (length events) dates answers ∙ later-fault events next (first_fault common (length events + length dates.items) answers) (type_events common (length events) dates.items) added
 
 -- the answers from the kth on
 left_of : (answers : List (Result (Vec Planned) PlanFault)) (k : ℕ) (answer : Result (Vec Planned) PlanFault) → k < length answers → get_or answers k answer ≡ answer →
@@ -117,6 +147,7 @@ taken_one common answers events next k dates so_far lt here is count within =
     let whole = left_of answers k (Ok dates) lt here in
     record {
       within = within;
+      faults = so_far.faults ∙ ap (first_fault common (length events)) whole ∙ fault-behind common events next dates (drop (k + 1) answers) is ∙ ap (λ n. first_fault common n (drop (k + 1) answers)) (sym count);
       left = λ types are.
           let old = so_far.left types are in
           let first = begins_with dates (drop (k + 1) answers) old.left (rw whole at old.are) in
@@ -141,6 +172,17 @@ taken_all common answers events k types so_far le are =
     let none = only_none old.left (rw (drop_all k answers le) at old.are) in
     old.is ∙ ap (λ t. behind events (events_by_type common (length events) t)) none ∙ ap (behind events) (events_by_type-nil common (length events))
     ∙ ap Ok (append-nil events)
+
+pub fault_all : (common : Common) (answers : List (Result (Vec Planned) PlanFault)) (events : List Event) (k : ℕ) → HasTaken common answers events k → length answers ≤ k → first_fault common 0 answers ≡ None
+fault_all common answers events k so_far le = so_far.faults ∙ ap (first_fault common (length events)) (drop_all k answers le) ∙ fault-none common (length events)
+
+pub fault_here : (common : Common) (answers : List (Result (Vec Planned) PlanFault)) (events : List Event) (k : ℕ) (fault : PlanFault) → HasTaken common answers events k → k < length answers → get_or answers k (Err fault) ≡ Err fault
+    → first_fault common 0 answers ≡ Some fault
+fault_here common answers events k fault so_far lt here = so_far.faults ∙ ap (first_fault common (length events)) (left_of answers k (Err fault) lt here) ∙ fault-answer common (length events) fault (drop (k + 1) answers)
+
+pub fault_there : (common : Common) (answers : List (Result (Vec Planned) PlanFault)) (events : List Event) (k : ℕ) (dates : Vec Planned) (fault : PlanFault) → HasTaken common answers events k → k < length answers → get_or answers k (Ok dates) ≡ Ok dates
+    → type_events common (length events) dates.items ≡ Err fault → first_fault common 0 answers ≡ Some fault
+fault_there common answers events k dates fault so_far lt here is = so_far.faults ∙ ap (first_fault common (length events)) (left_of answers k (Ok dates) lt here) ∙ fault-dates common (length events) dates fault (drop (k + 1) answers) is
 
 -- a type whose own events are a fault
 pub taken_fault : (common : Common) (answers : List (Result (Vec Planned) PlanFault)) (events : List Event) (k : ℕ) (dates : Vec Planned) (fault : PlanFault) (types : List (Option (List Planned))) →

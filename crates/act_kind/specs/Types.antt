@@ -1,9 +1,11 @@
 -- What the code answers of dates: those dates, or why there are none. The dates of each type of event follow one another.
-use Rattle.std.specs.Prelude.{◌≡◌, ◌≢◌, ◌≤◌, ◌⊎◌, List, [], ◌∷◌, length, Option, Some, None, Result, Ok, Err, IsOk, IsSomeAnd, All}
+use Rattle.std.specs.Prelude.{◌≡◌, ◌≢◌, ℕ, ◌+◌, ◌≤◌, ◌⊎◌, List, [], ◌∷◌, length, Option, Some, None, Result, Ok, Err, IsOk, IsSomeAnd, All}
 use Rattle.std.specs.Global.{Vec}
+use Rattle.act_model.specs.declared.event.Event.{Event}
 use Rattle.act_model.specs.declared.run.PlanFault.{PlanFault}
 use Rattle.act_model.specs.declared.run.PlanFault.TheVariants.{TooManyDates, DateRange, NoMemory}
-use Rattle.act_profile.specs.Planning.{Planned}
+use Rattle.act_model.specs.declared.terms.Common.{Common}
+use Rattle.act_profile.specs.Planning.{Planned, type_events}
 use Rattle.act_model.specs.Limits.{most_dates}
 
 -- an answer of dates that may be undefined: the dates; that they are undefined; or that they are as many as a contract may have at most, or
@@ -19,6 +21,18 @@ abbrev pub AreTypes : List (Result (Vec Planned) PlanFault) → List (Option (Li
 AreTypes [] [] = Unit {0}
 AreTypes (answer ∷ answers) (dates ∷ types) = IsAnswer answer dates × (IsOk answer → AreTypes answers types)
 AreTypes answers types = ⊥
+
+-- the fault of a type's events, or else a later one
+abbrev pub or_later : Result (List Event) PlanFault → Option PlanFault → Option PlanFault
+or_later (Ok events) later = later
+or_later (Err fault) later = Some fault
+
+-- the fault that the answers come to, after so many dates of earlier types: the first answer's that is one, or that of the first dates that are
+-- too many or undefined
+unfoldable pub first_fault : Common → ℕ → List (Result (Vec Planned) PlanFault) → Option PlanFault
+first_fault common n [] = None
+first_fault common n (Err fault ∷ answers) = Some fault
+first_fault common n (Ok dates ∷ answers) = or_later (type_events common n dates.items) (first_fault common (n + length dates.items) answers)
 
 -- the first type has one date, as one that begins with its initial exchange
 abbrev pub StartsWithOne : List (Option (List Planned)) → Type 0

@@ -1,6 +1,6 @@
 //! The events of planned dates, type by type.
 ghost use Rattle.std.specs.Prelude.{◌≡◌, ◌≢◌, ◌+◌, ◌≤◌, ◌++◌, List, length, Option, Some, None, option_map, Ok, Err, IfOk, IfErr};
-ghost use Rattle.act_kind.specs.Types.{AreTypes, IsAnswer, IsCounted};
+ghost use Rattle.act_kind.specs.Types.{AreTypes, IsAnswer, IsCounted, first_fault};
 ghost use Rattle.act_profile.specs.Outcomes.{map_ok};
 ghost use Rattle.act_profile.specs.Planning.{events_by_type, planned_event, planned_events, shifted_by, shifting, type_events, unshifted_where_given};
 ghost use Rattle.act_profile.specs.Planning as profile;
@@ -13,7 +13,7 @@ use std::alloc::{AllocError, Global};
 use std::marker::Model;
 
 /// A date of an event before it is shifted.
-#[derive(Clone, Copy, Debug, PartialEq, Eq)]
+#[derive(Clone, Copy, PartialEq, Eq)]
 pub struct Planned {
     /// The type of the event.
     pub kind: EventType,
@@ -93,6 +93,8 @@ pub fn events_by_type(
     ensures fault { IfErr result (λ fault. (planned : List (Option (List profile.Planned))) →
         AreTypes types.now planned → IsCounted types.now planned → fault ≢ PlanFault.NoMemory →
         events_by_type common.now 0 planned ≡ Err fault) }
+    ensures no_fault { IfOk result (λ _. first_fault common.now 0 types.now ≡ None) }
+    ensures first_fault { IfErr result (λ fault. fault ≢ PlanFault.NoMemory → first_fault common.now 0 types.now ≡ Some fault) }
 {
     let mut events = Vec::new(alloc);
     'types: for answer in types {

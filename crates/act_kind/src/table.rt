@@ -17,7 +17,7 @@ use act_num::{Fixed, Steps};
 use std::sync::ledger::Ledger;
 
 /// What an event pays before the settlement factor.
-#[derive(Clone, Copy, Debug, PartialEq, Eq)]
+#[derive(Clone, Copy, PartialEq, Eq)]
 pub enum Payment {
     /// Nothing: the table of steps writes 0.
     Nothing,

@@ -1,5 +1,5 @@
 -- The places of names, in their texts as the set keeps them and once one more is there.
-use Rattle.std.proofs.Common.{◌≡◌, ℕ, suc, ◌+◌, ◌^◌, ◌<◌, ◌≤◌, Bool, true, false, not, cond, ◌||◌, List, [], ◌∷◌, ◌++◌, length, get_or, map, Some, None, inl, inr, refl, sym, ap, ◌∙◌, if◌then◌else◌, arith}
+use Rattle.std.proofs.Common.{◌≡◌, ℕ, suc, ◌+◌, ◌<◌, ◌≤◌, Bool, true, false, not, cond, ◌||◌, List, [], ◌∷◌, ◌++◌, length, get_or, map, Some, None, inl, inr, refl, sym, ap, ◌∙◌, if◌then◌else◌, arith}
 use Rattle.std.proofs.Math.Seq.{get_or-append_seam}
 use Rattle.std.proofs.lemmas.Bool.{cases_lt, lt-ltb}
 use Rattle.std.proofs.lemmas.Bool.Decides.{nat_tests}
@@ -10,6 +10,7 @@ use Rattle.std.proofs.lemmas.Option.{get_or_from_slice_get, slice_get-get_or, sl
 use Rattle.std.proofs.lemmas.Slice.Eq.{bytes_eq-Decides}
 use Rattle.std.specs.List.{AllZip, list_any, position, position_or_len, slice_get}
 use Rattle.std.specs.Str.{bytes_eq}
+use Rattle.act_model.specs.Limits.{most_names}
 use Rattle.act_model.specs.Name.{is_name}
 use Rattle.act_model.specs.Names.{AreNames, place_of}
 
@@ -95,8 +96,8 @@ module _ (names : List (List ℕ)) (name : List ℕ) (absent : place_of name nam
             rw (end, ← same) last
       ]
 
-  pub more_names : AreNames names → is_name name ≡ true → length names < 2 ^ 31 → AreNames (names ++ name ∷ [])
-  more_names before is_one room = record {
+  pub more_names : AreNames names → is_name name ≡ true → length names < most_names → AreNames (names ++ name ∷ [])
+  more_names before is_one fewer = record {
     named = by_place (λ place other. is_name other ≡ true) before.named is_one;
     numbered = by_place (λ place other. place_of other (names ++ name ∷ []) ≡ Some place) (λ place other at. earlier place other at (before.numbered place other at)) latest;
     few = omega (arith, length-append names (name ∷ []));

@@ -16,3 +16,7 @@ most_dates = 4096
 -- the most entries of a book, and of all scripts together
 abbrev pub most_entries : ℕ
 most_entries = 1_048_576
+
+-- the most names of one sort, as of contracts
+abbrev pub most_names : ℕ
+most_names = 134_217_727

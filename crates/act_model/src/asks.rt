@@ -7,7 +7,7 @@ use act_num::NoMemory;
 use std::alloc::Global;
 
 /// An ask of a journal.
-#[derive(Clone, Copy, Debug, PartialEq, Eq)]
+#[derive(Clone, Copy, PartialEq, Eq)]
 pub struct Asking {
     /// The caller's number, from 1.
     pub caller: u32,

@@ -4,7 +4,7 @@ ghost use Rattle.std.specs.Str.{bytes_eq};
 ghost use Rattle.act_model.specs.Kind.{type_name, type_named};
 
 /// Which side of a contract the record's owner is on.
-#[derive(Clone, Copy, Debug, PartialEq, Eq)]
+#[derive(Clone, Copy, PartialEq, Eq)]
 pub enum ContractRole {
     /// Real position asset.
     RPA,
@@ -35,7 +35,7 @@ pub enum ContractRole {
 }
 
 /// The types of contracts.
-#[derive(Clone, Copy, Debug, PartialEq, Eq)]
+#[derive(Clone, Copy, PartialEq, Eq)]
 pub enum ContractType {
     /// Principal at maturity.
     PAM,
@@ -121,7 +121,7 @@ impl ContractType {
 }
 
 /// What interest of an amortizing loan is computed on.
-#[derive(Clone, Copy, Debug, PartialEq, Eq)]
+#[derive(Clone, Copy, PartialEq, Eq)]
 pub enum InterestCalculationBase {
     /// The notional.
     NT,
@@ -132,7 +132,7 @@ pub enum InterestCalculationBase {
 }
 
 /// Whether a fee is an amount or a rate.
-#[derive(Clone, Copy, Debug, PartialEq, Eq)]
+#[derive(Clone, Copy, PartialEq, Eq)]
 pub enum FeeBasis {
     /// An amount, paid on each fee date.
     A,
@@ -141,7 +141,7 @@ pub enum FeeBasis {
 }
 
 /// How the penalty of a prepayment is computed.
-#[derive(Clone, Copy, Debug, PartialEq, Eq)]
+#[derive(Clone, Copy, PartialEq, Eq)]
 pub enum PenaltyType {
     /// There is none.
     O,
@@ -154,7 +154,7 @@ pub enum PenaltyType {
 }
 
 /// What is scaled by an index.
-#[derive(Clone, Copy, Debug, PartialEq, Eq)]
+#[derive(Clone, Copy, PartialEq, Eq)]
 pub struct ScalingEffect {
     /// Interest payments, the text's I.
     pub interest: bool,
@@ -163,7 +163,7 @@ pub struct ScalingEffect {
 }
 
 /// What is delivered.
-#[derive(Clone, Copy, Debug, PartialEq, Eq)]
+#[derive(Clone, Copy, PartialEq, Eq)]
 pub enum DeliverySettlement {
     /// Each side's payments.
     D,
@@ -172,7 +172,7 @@ pub enum DeliverySettlement {
 }
 
 /// Kinds of options.
-#[derive(Clone, Copy, Debug, PartialEq, Eq)]
+#[derive(Clone, Copy, PartialEq, Eq)]
 pub enum OptionType {
     /// A call.
     C,
@@ -183,7 +183,7 @@ pub enum OptionType {
 }
 
 /// When an option may be exercised.
-#[derive(Clone, Copy, Debug, PartialEq, Eq)]
+#[derive(Clone, Copy, PartialEq, Eq)]
 pub enum ExerciseType {
     /// European: at maturity.
     E,
@@ -194,7 +194,7 @@ pub enum ExerciseType {
 }
 
 /// What the exposure of a covered contract is.
-#[derive(Clone, Copy, Debug, PartialEq, Eq)]
+#[derive(Clone, Copy, PartialEq, Eq)]
 pub enum GuaranteedExposure {
     /// The notional.
     NO,

@@ -46,7 +46,7 @@ pub enum EventType {
 }
 
 /// An event of a contract.
-#[derive(Clone, Copy, Debug, PartialEq, Eq)]
+#[derive(Clone, Copy, PartialEq, Eq)]
 pub struct Event {
     /// Its day.
     pub day: Day,
@@ -61,7 +61,7 @@ pub struct Event {
 }
 
 /// Where an event comes from.
-#[derive(Clone, Copy, Debug, PartialEq, Eq)]
+#[derive(Clone, Copy, PartialEq, Eq)]
 pub enum Source {
     /// The contract's plan or its exercise, with the place of its date, from 0, among those of its line of the
     /// schedule; RR and RRF are one line.

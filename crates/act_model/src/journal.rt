@@ -6,7 +6,7 @@ use std::marker::Model;
 use std::sync::Arc;
 
 /// A step of a caller.
-#[derive(Clone, Copy, Debug, PartialEq, Eq)]
+#[derive(Clone, Copy, PartialEq, Eq)]
 pub enum Step {
     /// It appends an entry to the book.
     Append(Obs),
@@ -15,7 +15,7 @@ pub enum Step {
 }
 
 /// What is asked for.
-#[derive(Clone, Copy, Debug, PartialEq, Eq)]
+#[derive(Clone, Copy, PartialEq, Eq)]
 pub enum Asked {
     /// Every named contract, in portfolio order.
     All,
@@ -24,7 +24,7 @@ pub enum Asked {
 }
 
 /// A line of a script.
-#[derive(Clone, Copy, Debug, PartialEq, Eq)]
+#[derive(Clone, Copy, PartialEq, Eq)]
 pub struct Line {
     /// The step.
     pub step: Step,
@@ -33,7 +33,7 @@ pub struct Line {
 }
 
 /// An item of the journal.
-#[derive(Clone, Copy, Debug, PartialEq, Eq)]
+#[derive(Clone, Copy, PartialEq, Eq)]
 pub struct Item {
     /// The caller's number, from 1.
     pub caller: u32,

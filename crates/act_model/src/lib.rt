@@ -9,6 +9,7 @@ mod limits;
 mod name;
 mod names;
 mod observed;
+mod rows;
 mod run;
 mod state;
 mod terms;
@@ -20,10 +21,11 @@ pub use choice::{
 };
 pub use event::{Event, EventType, Source};
 pub use journal::{Answer, Asked, Item, Line, Step};
-pub use limits::{MOST_BYTES, MOST_CONTRACTS, MOST_DATES, MOST_ENTRIES};
+pub use limits::{MOST_BYTES, MOST_CONTRACTS, MOST_DATES, MOST_ENTRIES, MOST_NAMES};
 pub use name::{is_currency, is_name};
 pub use names::Names;
 pub use observed::{Listed, Obs, ObsKind, Observed, observed_is_last_of_latest_day};
+pub use rows::Rows;
 pub use run::{Close, Plan, PlanFault, Row, Run, Stop};
 pub use state::State;
 pub use terms::{

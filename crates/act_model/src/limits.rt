@@ -11,3 +11,6 @@ pub const MOST_DATES: usize = 4_096;
 
 /// The most entries of a book, and of all scripts together.
 pub const MOST_ENTRIES: u64 = 1_048_576;
+
+/// The most names of one sort, as of contracts.
+pub const MOST_NAMES: usize = 134_217_727;

@@ -1,16 +1,18 @@
 //! Names and their numbers.
-ghost use Rattle.std.specs.Prelude.{◌≡◌, ◌^◌, ◌<◌, ◌++◌, [], ◌∷◌, true, false, None, Some, length, slice_get, option_map, IfOk, IfErr, IfSome, codes};
+ghost use Rattle.std.specs.Prelude.{◌≡◌, ◌≤◌, ◌++◌, [], ◌∷◌, true, false, None, Some, length, slice_get, option_map, IfOk, IfErr, IfSome, codes};
 ghost use Rattle.std.specs.Str.{bytes_eq};
 ghost use Rattle.act_model.specs.Name.{is_name};
-ghost use Rattle.act_model.specs.Names.{no_names, number_of, place_of, with_name};
+ghost use Rattle.act_model.specs.Names.{AreFew, no_names, number_of, place_of, with_name};
 
+use crate::limits::MOST_NAMES;
 use act_num::NoMemory;
 use indexmap::IndexSet;
 use std::alloc::Global;
 use std::marker::Model;
 
 /// The names of contracts, of market objects, which are called codes, and of currencies. A name's number is its
-/// place, from 0, among those of its sort, in the order in which they were added. No name is held twice.
+/// place, from 0, among those of its sort, in the order in which they were added. No name is held twice, and there are
+/// at most 134,217,727 of each sort.
 #[derive(Drop)]
 pub struct Names {
     contracts: NameList,
@@ -26,7 +28,7 @@ impl Model for Names {
     ghost view = { λ n. record { contracts = n.contracts; codes = n.codes; currencies = n.currencies } };
 }
 
-/// Names of one sort, in the order in which they were added.
+/// Names of one sort, in the order in which they were added, at most 134,217,727.
 #[derive(Drop)]
 struct NameList {
     texts: IndexSet<String>,
@@ -104,12 +106,12 @@ impl Names {
     }
 
     /// Adds the name of a contract, which isn't there yet and isn't `*`, behind the others, and gives its number.
-    /// Where memory runs out, the names are as before.
+    /// NoMemory where memory runs out, or where there are 134,217,727 names of contracts already; the names are then
+    /// as before.
     pub fn add_contract(&mut self, id: &str) -> Result<u32, NoMemory>
         requires name { is_name id.now ≡ true }
         requires no_star { bytes_eq id.now (codes "*") ≡ false }
         requires absent { place_of id.now self.old.contracts ≡ None }
-        requires room { length self.old.contracts < 2 ^ 31 }
         ensures number { IfOk result (λ n. n ≡ length self.old.contracts) }
         ensures names { IfOk result (λ _. self.new ≡ record self.old { contracts = self.old.contracts ++ id.now ∷ [] }) }
         ensures unchanged { IfErr result (λ _. self.new ≡ self.old) }
@@ -118,10 +120,10 @@ impl Names {
     }
 
     /// Gives the number of the name of a market object, which it adds behind the others where it isn't there.
-    /// Where memory runs out, the names are as before.
+    /// NoMemory where memory runs out, or where it isn't there and there are 134,217,727 names of market objects
+    /// already; the names are then as before.
     pub fn intern_code(&mut self, code: &str) -> Result<u32, NoMemory>
         requires name { is_name code.now ≡ true }
-        requires room { length self.old.codes < 2 ^ 31 }
         ensures number { IfOk result (λ n. n ≡ number_of code.now self.old.codes) }
         ensures names { IfOk result (λ _. self.new ≡ record self.old { codes = with_name code.now self.old.codes }) }
         ensures unchanged { IfErr result (λ _. self.new ≡ self.old) }
@@ -129,11 +131,11 @@ impl Names {
         self.codes.intern(code)
     }
 
-    /// Gives the number of the name of a currency, which it adds behind the others where it isn't there. Where
-    /// memory runs out, the names are as before.
+    /// Gives the number of the name of a currency, which it adds behind the others where it isn't there. NoMemory
+    /// where memory runs out, or where it isn't there and there are 134,217,727 names of currencies already; the
+    /// names are then as before.
     pub fn intern_currency(&mut self, currency: &str) -> Result<u32, NoMemory>
         requires name { is_name currency.now ≡ true }
-        requires room { length self.old.currencies < 2 ^ 31 }
         ensures number { IfOk result (λ n. n ≡ number_of currency.now self.old.currencies) }
         ensures names { IfOk result (λ _. self.new ≡ record self.old { currencies = with_name currency.now self.old.currencies }) }
         ensures unchanged { IfErr result (λ _. self.new ≡ self.old) }
@@ -143,7 +145,8 @@ impl Names {
 
     /// A copy of the names.
     pub fn copied(&self) -> Result<Names, NoMemory>
-        ensures { IfOk result (λ names. names ≡ self.now) }
+        ensures names { IfOk result (λ names. names ≡ self.now) }
+        ensures few { IfOk result (λ names. AreFew names) }
     {
         let contracts = self.contracts.copied()?;
         let codes = self.codes.copied()?;
@@ -185,15 +188,18 @@ impl NameList {
         Some(place as u32)
     }
 
-    /// Adds a name, which isn't there yet, behind the others, and gives its number.
+    /// Adds a name, which isn't there yet, behind the others, and gives its number. NoMemory also where there are as
+    /// many as there may be.
     fn add(&mut self, name: &str) -> Result<u32, NoMemory>
         requires name { is_name name.now ≡ true }
         requires absent { place_of name.now self.old ≡ None }
-        requires room { length self.old < 2 ^ 31 }
         ensures number { IfOk result (λ n. n ≡ length self.old) }
         ensures names { IfOk result (λ _. self.new ≡ self.old ++ name.now ∷ []) }
         ensures unchanged { IfErr result (λ _. self.new ≡ self.old) }
     {
+        if self.texts.len() >= MOST_NAMES {
+            return Err(NoMemory);
+        }
         let number = self.texts.len() as u32;
         let text = String::from_str(*self.texts.allocator(), name)?;
         let Ok(_) = self.texts.insert(text) else {
@@ -205,7 +211,6 @@ impl NameList {
     /// The number of a name, which it adds behind the others where it isn't there.
     fn intern(&mut self, name: &str) -> Result<u32, NoMemory>
         requires name { is_name name.now ≡ true }
-        requires room { length self.old < 2 ^ 31 }
         ensures number { IfOk result (λ n. n ≡ number_of name.now self.old) }
         ensures names { IfOk result (λ _. self.new ≡ with_name name.now self.old) }
         ensures unchanged { IfErr result (λ _. self.new ≡ self.old) }
@@ -218,7 +223,8 @@ impl NameList {
 
     /// A copy of the names.
     fn copied(&self) -> Result<NameList, NoMemory>
-        ensures { IfOk result (λ names. names ≡ self.now) }
+        ensures names { IfOk result (λ names. names ≡ self.now) }
+        ensures few { IfOk result (λ names. length names ≤ MOST_NAMES) }
     {
         let texts = self.texts.clone()?;
         Ok(NameList { texts })

@@ -3,6 +3,7 @@ ghost use Rattle.std.specs.Prelude.{◌≡◌};
 ghost use Rattle.act_model.specs.declared.run.PlanFault.TheVariants as faults;
 
 use crate::event::{Event, EventType};
+use crate::rows::Rows;
 use crate::state::State;
 use act_date::{Day, Frac};
 use act_num::{Fixed, NoMemory};
@@ -10,7 +11,7 @@ use std::alloc::{AllocError, AllocFailed};
 use std::marker::Model;
 
 /// What an event pays, and the state that it leaves.
-#[derive(Clone, Copy, Debug, PartialEq, Eq)]
+#[derive(Clone, Copy, PartialEq, Eq)]
 pub struct Row {
     /// The event's day.
     pub day: Day,
@@ -28,7 +29,7 @@ pub struct Row {
 const _: () = prove!(size_of::<Row>() <= 256);
 
 /// Why a run has no further rows.
-#[derive(Clone, Copy, Debug, PartialEq, Eq)]
+#[derive(Clone, Copy, PartialEq, Eq)]
 pub enum Close {
     /// All events were taken.
     End,
@@ -49,7 +50,7 @@ pub enum Close {
 }
 
 /// Why a run stops before its end.
-#[derive(Clone, Copy, Debug, PartialEq, Eq)]
+#[derive(Clone, Copy, PartialEq, Eq)]
 pub enum Stop {
     /// An observation that an event reads isn't there.
     Missing {
@@ -71,7 +72,7 @@ pub enum Stop {
 #[derive(Drop)]
 pub struct Run {
     /// One row for each event, in order.
-    pub rows: Vec<Row>,
+    pub rows: Rows,
     /// Why there are no more.
     pub close: Close,
 }
@@ -81,7 +82,7 @@ impl Model for Run {
 
     ghost Value = { Stream };
 
-    ghost view = { λ r. record { rows = r.rows.items; close = r.close } };
+    ghost view = { λ r. record { rows = r.rows; close = r.close } };
 }
 
 /// The scheduled events of a contract.
@@ -104,7 +105,7 @@ impl Model for Plan {
 }
 
 /// Why terms have no plan.
-#[derive(Clone, Copy, Debug, PartialEq, Eq)]
+#[derive(Clone, Copy, PartialEq, Eq)]
 pub enum PlanFault {
     /// There are more than 4,096 scheduled events, or redemptions of a LAM whose maturity is derived.
     TooManyDates,

@@ -5,7 +5,7 @@ use act_num::Fixed;
 /// The state of a contract between two events: the ACTUS state variables in this profile. Days are counted from
 /// 1970-01-01; amounts, rates and multipliers are in units of 10^-9. Nt, Ipac, Ipac2, Feac and Ipcb bear the
 /// role's sign.
-#[derive(Clone, Copy, Debug, PartialEq, Eq)]
+#[derive(Clone, Copy, PartialEq, Eq)]
 pub struct State {
     /// Sd, the day up to which the state has accrued. Each state of a run has one.
     pub sd: Option<Day>,

@@ -8,3 +8,4 @@ pub mod Products
 pub mod ReadBack
 pub mod Reading
 pub mod Scaling
+pub mod Words

@@ -1,8 +1,10 @@
 -- What rounding gives.
-use Rattle.std.proofs.Common.{◌≡◌, ℕ, zero, suc, ◌+◌, ◌*◌, ◌/◌, ◌%◌, ◌<◌, ◌≤◌, ℤ, pos, negsuc, neg_ℤ, ◌-ℤ◌, ◌*ℤ◌, unsigned_abs, refl, sym, ◌∙◌, ap, ⊎_elim, arith}
+use Rattle.std.proofs.Common.{◌≡◌, ℕ, zero, suc, ◌+◌, ◌*◌, ◌/◌, ◌%◌, ◌<◌, ◌≤◌, Bool, true, false, ℤ, pos, negsuc, neg_ℤ, ◌-ℤ◌, ◌*ℤ◌, unsigned_abs, refl, sym, ◌∙◌, ap, ⊎_elim, cond, arith}
 use Rattle.std.proofs.lemmas.Bool.{cases_lt}
 use Rattle.std.proofs.lemmas.Int.{ints}
-use Rattle.act_num.specs.Number.{nearest_number, rnd, IsNearest}
+use Rattle.std.proofs.lemmas.Nat.{div-mul-add, mod-mul-add}
+use mir.Val.{bool_byte}
+use Rattle.act_num.specs.Number.{nearest_number, rnd, rounds_up, IsNearest}
 
 -- n and a multiple m of d are at most half of d apart, and m is even where they are just that
 pub record IsWithinHalf (n d m : ℕ) : Type 0 where
@@ -16,6 +18,15 @@ next_multiple m d = omega arith
 
 quotient : (n d : ℕ) → n / d * d + n % d ≡ n
 quotient n d = omega arith
+
+pub more_is : (b : Bool) (n : ℕ) → n + bool_byte b ≡ cond b (n + 1) n
+more_is true n = refl
+more_is false n = omega arith
+
+-- a whole part k and a rest m of d
+pub nearest_split : (k m d : ℕ) → m < d → nearest_number (k * d + m) d ≡ cond (rounds_up k m d) (k + 1) k
+unfolding nearest_number
+nearest_split k m d h = rw (div-mul-add k d m h, mod-mul-add k d m h) refl
 
 pub nearest_number-within_half : (n d : ℕ) → 0 < d → IsWithinHalf n d (nearest_number n d)
 unfolding nearest_number

@@ -1,9 +1,10 @@
 -- Digits with leading zeros, and texts put together from pieces.
-use Rattle.std.proofs.Common.{◌≡◌, ℕ, zero, suc, ◌+◌, ◌-◌, ◌/◌, ◌%◌, ◌^◌, ◌<◌, ◌≤◌, List, [], ◌∷◌, ◌++◌, length, take, drop, decimal, codes, ℤ, pos, int_lt, unsigned_abs, refl, sym, ◌∙◌, ap, ap₂, length-append, arith}
+use Rattle.std.proofs.Common.{◌≡◌, ℕ, zero, suc, ◌+◌, ◌-◌, ◌/◌, ◌%◌, ◌^◌, ◌<◌, ◌≤◌, List, [], ◌∷◌, ◌++◌, length, take, drop, decimal, codes, ℤ, pos, int_lt, unsigned_abs, refl, sym, ◌∙◌, ap, ap₂, append_assoc, length-append, length-take, set, arith}
 use Rattle.std.proofs.Math.Nat.{one-le-pow, pow-suc}
 use Rattle.std.proofs.lemmas.Bool.{cond_both}
 use Rattle.std.proofs.lemmas.Fmt.{decimal_digit, decimal_step, length-decimal-le_wide}
-use Rattle.std.proofs.lemmas.List.{take_all, drop-drop}
+use Rattle.std.proofs.Math.Seq.{set-append_seam}
+use Rattle.std.proofs.lemmas.List.{drop-drop, drop_at, take-append-drop, take_at}
 use Rattle.act_num.specs.Decimal.{fraction_text, sign_text}
 use Rattle.act_num.specs.Digits.{padded_digits}
 use Rattle.act_num.specs.Number.{InRange, one}
@@ -33,16 +34,42 @@ one_and_units : (units : ℕ) → units < one → decimal (one + units) ≡ 49 �
 unfolding fraction_text
 one_and_units units h = padded 9 units h (omega arith)
 
-behind_first : (text rest : List ℕ) (d : ℕ) → text ≡ d ∷ rest → take (length text - 1) (drop 1 text) ≡ rest
-behind_first text rest d e = rw e (take_all _ rest (omega arith))
+pub length-one_and_units : (units : ℕ) → units < one → length (decimal (one + units)) ≡ 10
+length-one_and_units units h = ap length (one_and_units units h) ∙ omega (arith, length-fraction_text units)
 
--- the digits behind the one
-pub digits_behind_one : (units : ℕ) → units < one → (length (decimal (one + units)) ≡ 10) × (take (length (decimal (one + units)) - 1) (drop 1 (decimal (one + units))) ≡ fraction_text units) × (length (fraction_text units) ≡ 9)
-digits_behind_one units h =
-    let all = one_and_units units h in
-    let size = ap length all in
-    let nine = length-fraction_text units in
-    (omega (arith, size, nine), behind_first _ (fraction_text units) 49 all, nine)
+-- a text written over another one between two places, and what it leaves
+pub record IsPutAt (old new ds : List ℕ) (at end : ℕ) : Type 0 where
+  pub written : take end new ≡ take at old ++ ds
+  pub rest : drop end new ≡ drop end old
+
+put_at : (old new ds : List ℕ) (at end : ℕ) → at + length ds ≡ end → end ≤ length old → new ≡ take at old ++ (ds ++ drop end old) → IsPutAt old new ds at end
+put_at old new ds at end e room all =
+    let front = length-take at old in
+    let size : length (take at old ++ ds) ≡ end = length-append (take at old) ds ∙ omega (arith, front) in
+    let parts : new ≡ (take at old ++ ds) ++ drop end old = all ∙ sym (append_assoc (take at old) ds (drop end old)) in
+    record {
+      written = ap (take end) parts ∙ take_at (take at old ++ ds) (drop end old) end size;
+      rest = ap (drop end) parts ∙ drop_at (take at old ++ ds) (drop end old) end size;
+    }
+
+-- what a text before a place and one from it on make
+put_together : (old new ds : List ℕ) (at end : ℕ) → drop at new ≡ ds ++ drop end old → take at new ≡ take at old → new ≡ take at old ++ (ds ++ drop end old)
+put_together old new ds at end from front = sym (take-append-drop at new) ∙ ap₂ (λ xs ys. xs ++ ys) front from
+
+-- digits that end at a place
+pub digits_put : (old new ds : List ℕ) (start at end : ℕ) → at + length ds ≡ end → end ≤ length old → start + length ds ≡ end → drop start new ≡ ds ++ drop end old → take start new ≡ take start old → IsPutAt old new ds at end
+digits_put old new ds start at end e room begin from front =
+    let same : start ≡ at = omega arith in
+    put_at old new ds at end e room (rw same at (put_together old new ds start end from front))
+
+-- the one in front of nine digits, and a point written over it
+pub point_put : (old new : List ℕ) (start at units : ℕ) → units < one → at + 10 ≤ length old → start + length (decimal (one + units)) ≡ at + 10 → drop start new ≡ decimal (one + units) ++ drop (at + 10) old → take start new ≡ take start old → IsPutAt old (set new at 46) (46 ∷ fraction_text units) at (at + 10)
+point_put old new start at units h room begin from front =
+    let same : start ≡ at = omega (arith, length-one_and_units units h) in
+    let size : length (take at old) ≡ at = length-take at old ∙ omega arith in
+    let all : new ≡ take at old ++ (49 ∷ (fraction_text units ++ drop (at + 10) old)) = put_together old new (49 ∷ fraction_text units) at (at + 10) (rw (same, one_and_units units h) at from) (rw same at front) in
+    put_at old (set new at 46) (46 ∷ fraction_text units) at (at + 10) (omega (arith, length-fraction_text units)) room
+    (ap₂ (λ xs i. set xs i 46) all (sym size) ∙ set-append_seam (take at old) 49 (fraction_text units ++ drop (at + 10) old) 46)
 
 -- the whole part of a number in range has at most thirty digits
 pub whole_short : (z : ℤ) → InRange z → length (decimal (unsigned_abs z / one)) ≤ 30

@@ -5,7 +5,6 @@ use Rattle.std.proofs.Math.Nat.{pow-suc, pow-le-pow_right, one-le-pow, mul-le-mu
 use Rattle.std.proofs.lemmas.Bool.Decides.{nat_tests}
 use Rattle.std.proofs.lemmas.Int.{ints}
 use Rattle.std.proofs.lemmas.Int.Digits.{digits_value-lt}
-use Rattle.std.proofs.lemmas.Nat.{div-mul-add, mod-mul-add}
 use Rattle.std.proofs.lemmas.List.{length-drop, take-append-drop}
 use mir.Val.{bool_byte}
 use Rattle.act_num.specs.Decimal.{scaled_number}
@@ -13,11 +12,7 @@ use Rattle.act_num.specs.Number.{nearest_number, rounds_up}
 use Rattle.act_num.specs.Parts.{magnitude_in_range}
 use Rattle.act_num.proofs.DigitValues.{digits_value-append}
 use Rattle.act_num.proofs.Limits.{limited_some, limited_none}
-
--- a whole part k and a rest m of d
-nearest_split : (k m d : ℕ) → m < d → nearest_number (k * d + m) d ≡ cond (rounds_up k m d) (k + 1) k
-unfolding nearest_number
-nearest_split k m d h = rw (div-mul-add k d m h, mod-mul-add k d m h) refl
+use Rattle.act_num.proofs.Nearest.{more_is, nearest_split}
 
 small_rounds_down : (n d : ℕ) → 2 * n < d → rounds_up 0 n d ≡ false
 small_rounds_down n d h = grind (arith, nat_tests)
@@ -63,10 +58,6 @@ nearest_at ds p all h =
 kept_below : (b : Bool) (n : ℕ) → n ≤ cond b (n + 1) n
 kept_below true n = omega arith
 kept_below false n = omega arith
-
-more_is : (b : Bool) (n : ℕ) → n + bool_byte b ≡ cond b (n + 1) n
-more_is true n = refl
-more_is false n = omega arith
 
 -- the digits in front of the point, as the code has them
 pub rounded_past : (ds whole : List ℕ) (p : ℕ) → AllDigits 10 ds → p < length ds → whole ≡ take p ds → None ≡ magnitude_in_range (digits_value 10 whole) → None ≡ magnitude_in_range (nearest_number (digits_value 10 ds) (10 ^ (length ds - p)))

@@ -5,17 +5,17 @@ ghost use Rattle.act_num.specs.Number.{InRange};
 
 use crate::Fixed;
 use crate::fixed::{product, sum};
-use crate::rounding::rnd;
+use crate::rounding::{rnd, rnd_by_ones};
 use std::marker::Model;
 
 /// The units of the factor 1.
 const ONE_IN_UNITS: i128 = 1_000_000_000_000;
 
 /// How many units of a factor make one unit of a rate.
-const UNITS_IN_RATE_UNIT: i128 = 1_000;
+const UNITS_IN_RATE_UNIT: u64 = 1_000;
 
 /// A scaling factor in whole units of 10^-12, from `-(2^127 - 1)` to `2^127 - 1` of them.
-#[derive(Clone, Copy, Debug, PartialEq, Eq, PartialOrd, Ord)]
+#[derive(Clone, Copy, PartialEq, Eq, PartialOrd, Ord)]
 pub struct Factor {
     units: i128,
 }
@@ -42,7 +42,10 @@ impl Factor {
         requires den_in { den ≤ℤ pos 133_590 }
         ensures { result ≡ one_plus_of rate num (unsigned_abs den) }
     {
-        let product = product(product(rate.units(), i128::from(num))?, UNITS_IN_RATE_UNIT)?;
+        let product = product(
+            product(rate.units(), i128::from(num))?,
+            i128::from(UNITS_IN_RATE_UNIT),
+        )?;
         let units = sum(ONE_IN_UNITS, rnd(product, i128::from(den)))?;
         Some(Factor { units })
     }
@@ -52,7 +55,7 @@ impl Factor {
         ensures { result ≡ times_of self b }
     {
         let product = product(self.units, b.units)?;
-        let units = rnd(product, ONE_IN_UNITS);
+        let units = rnd_by_ones(product, UNITS_IN_RATE_UNIT);
         Some(Factor { units })
     }
 

@@ -1,9 +1,9 @@
 //! Amounts, rates and prices.
 ghost use Rattle.std.specs.Prelude.{◌≡◌, ◌≤◌, ◌*◌, ℤ, pos, ◌+ℤ◌, ◌-ℤ◌, ◌*ℤ◌, ◌<ℤ◌, ◌≤ℤ◌, neg_ℤ, unsigned_abs, IfSome};
 ghost use Rattle.std.specs.Int.{int_max, int_min};
-ghost use Rattle.act_num.specs.Number.{InRange, largest, number_in_range, rnd, add_of, sub_of, mul_of, mul_frac_of, ratio_of, clip_of};
+ghost use Rattle.act_num.specs.Number.{InRange, largest, number_in_range, one, rnd, add_of, sub_of, mul_of, mul_frac_of, ratio_of, clip_of};
 
-use crate::rounding::rnd;
+use crate::rounding::{rnd, rnd_by_ones};
 use std::cmp::Ordering;
 use std::marker::Model;
 
@@ -14,7 +14,7 @@ pub(crate) const ONE_IN_UNITS: i128 = 1_000_000_000;
 pub(crate) const LARGEST: u128 = (1 << 127) - 1;
 
 /// A number in whole units of 10^-9, from `-(2^127 - 1)` to `2^127 - 1` of them.
-#[derive(Clone, Copy, Debug, PartialEq, Eq, PartialOrd, Ord)]
+#[derive(Clone, Copy, PartialEq, Eq, PartialOrd, Ord)]
 pub struct Fixed {
     units: i128,
 }
@@ -75,7 +75,7 @@ impl Fixed {
     pub fn mul(self, b: Fixed) -> Option<Fixed>
         ensures { result ≡ mul_of self b }
     {
-        Some(rounded(product(self.units, b.units)?, ONE_IN_UNITS))
+        Some(by_ones(product(self.units, b.units)?, 1))
     }
 
     /// The product with the fraction `num/den`, rounded once, or None where a product of the units, from
@@ -87,7 +87,7 @@ impl Fixed {
         ensures { result ≡ mul_frac_of self b num (unsigned_abs den) }
     {
         let product = product(product(self.units, b.units)?, i128::from(num))?;
-        Some(rounded(product, i128::from(den) * ONE_IN_UNITS))
+        Some(by_ones(product, den as u64))
     }
 
     /// The ratio, rounded once, or None where `b` is 0 or this number times 10^9 is out of range.
@@ -166,6 +166,18 @@ fn rounded(units: i128, divisor: i128) -> Fixed
 {
     Fixed {
         units: rnd(units, divisor),
+    }
+}
+
+/// The number of units that is nearest to the quotient by so many ones.
+fn by_ones(units: i128, den: u64) -> Fixed
+    requires den_above { 1 ≤ den }
+    requires den_in { den ≤ 133_590 }
+    requires in_range { InRange units }
+    ensures { result ≡ rnd units (den * one) }
+{
+    Fixed {
+        units: rnd_by_ones(units, den),
     }
 }
 

@@ -19,7 +19,7 @@ use std::alloc::{AllocError, AllocFailed};
 pub use steps::Steps;
 
 /// Memory ran out.
-#[derive(Clone, Copy, Debug, PartialEq, Eq)]
+#[derive(Clone, Copy, PartialEq, Eq)]
 pub struct NoMemory;
 
 impl From<AllocError> for NoMemory {

@@ -1,15 +1,12 @@
 //! Numbers written as decimal text.
-ghost use Rattle.std.specs.Prelude.{◌≡◌, ◌+◌, ◌<◌, ◌≤◌, ◌++◌, decimal, drop, length, take};
+ghost use Rattle.std.specs.Prelude.{◌≡◌, ◌+◌, ◌<◌, ◌≤◌, ◌++◌, ◌/◌, ◌%◌, codes, decimal, drop, length, take};
 ghost use Rattle.act_num.specs.Decimal.{decimal_of, fraction_text, printed, sign_text};
 ghost use Rattle.act_num.specs.Number.{one};
 
 use crate::Fixed;
-use crate::fixed::ONE_IN_UNITS;
 use crate::pieces::put;
-use itoa::Buffer;
-
-/// The units of the number 1.
-const ONE: u64 = ONE_IN_UNITS as u64;
+use crate::rounding::ONE;
+use itoa::{Buffer, write_digits};
 
 impl Fixed {
     /// Writes the number in front of `out`, and returns how many bytes its text has, at most 41: `-` where it is
@@ -23,23 +20,58 @@ impl Fixed {
         ensures short { result ≤ 41 }
     {
         let units = self.units();
-        let magnitude = units.unsigned_abs();
-        let end = put(out, 0, sign(units));
-        let end = put_whole(out, end, magnitude / u128::from(ONE));
-        let end = put(out, end, b".");
-        put_fraction(out, end, (magnitude % u128::from(ONE)) as u64)
+        let end = put_sign(out, units);
+        let (end, fraction) = put_whole(out, end, units.unsigned_abs());
+        put_fraction(out, end, fraction)
     }
 }
 
-/// A minus sign where the number is negative.
-fn sign(units: i128) -> &'static [u8]
-    ensures { result.now ≡ sign_text units }
+/// Writes a minus sign where the number is negative, and returns the place behind it.
+fn put_sign(out: &mut [u8], units: i128) -> usize
+    requires { 1 ≤ length out.old }
+    ensures end { result ≡ length (sign_text units) }
+    ensures written { take result out.new ≡ sign_text units }
+    ensures rest { drop result out.new ≡ drop result out.old }
 {
-    if units < 0 { b"-" } else { b"" }
+    if units < 0 {
+        out[0] = b'-';
+        1
+    } else {
+        0
+    }
+}
+
+/// Writes the whole part of so many units, and returns the place behind it and the units that are left.
+fn put_whole(out: &mut [u8], at: usize, units: u128) -> (usize, u64)
+    requires { at + 40 ≤ length out.old }
+    ensures end { result.0 ≡ at + length (decimal (units / one)) }
+    ensures written { take result.0 out.new ≡ take at out.old ++ decimal (units / one) }
+    ensures rest { drop result.0 out.new ≡ drop result.0 out.old }
+    ensures left { result.1 ≡ units % one }
+{
+    if units <= u128::from(u64::MAX) {
+        let units = units as u64;
+        (put_word(out, at, units / ONE), units % ONE)
+    } else {
+        let one = u128::from(ONE);
+        (put_wide(out, at, units / one), (units % one) as u64)
+    }
 }
 
 /// Writes the number without leading zeros, and returns the place behind it.
-fn put_whole(out: &mut [u8], at: usize, number: u128) -> usize
+fn put_word(out: &mut [u8], at: usize, number: u64) -> usize
+    requires { at + 20 ≤ length out.old }
+    ensures end { result ≡ at + length (decimal number) }
+    ensures written { take result out.new ≡ take at out.old ++ decimal number }
+    ensures rest { drop result out.new ≡ drop result out.old }
+{
+    let end = at + count_digits(number);
+    write_digits(number, out, end);
+    end
+}
+
+/// The same for a number of up to 128 bits.
+fn put_wide(out: &mut [u8], at: usize, number: u128) -> usize
     requires { at + 40 ≤ length out.old }
     ensures end { result ≡ at + length (decimal number) }
     ensures written { take result out.new ≡ take at out.old ++ decimal number }
@@ -49,16 +81,48 @@ fn put_whole(out: &mut [u8], at: usize, number: u128) -> usize
     put(out, at, digits.format(number).as_bytes())
 }
 
-/// Writes nine digits of the units behind the point, and returns the place behind them.
-#[tactic(auto, using(crate::proofs::Padded::digits_behind_one))]
+/// How many digits the number has.
+fn count_digits(number: u64) -> usize
+    ensures { result ≡ length (decimal number) }
+{
+    let mut left = number;
+    let mut count = 0;
+    while left >= 10_000 {
+        left /= 10_000;
+        count += 4;
+    }
+    count + count_few_digits(left)
+}
+
+/// How many digits a number below 10,000 has.
+fn count_few_digits(number: u64) -> usize
+    requires { number < 10_000 }
+    ensures { result ≡ length (decimal number) }
+{
+    if number < 10 {
+        1
+    } else if number < 100 {
+        2
+    } else if number < 1_000 {
+        3
+    } else {
+        4
+    }
+}
+
+/// Writes a point and nine digits of the units behind it, and returns the place behind them.
 fn put_fraction(out: &mut [u8], at: usize, units: u64) -> usize
-    requires room { at + 9 ≤ length out.old }
+    requires room { at + 10 ≤ length out.old }
     requires fraction { units < one }
-    ensures end { result ≡ at + 9 }
-    ensures written { take result out.new ≡ take at out.old ++ fraction_text units }
+    ensures end { result ≡ at + 10 }
+    ensures written { take result out.new ≡ take at out.old ++ codes "." ++ fraction_text units }
     ensures rest { drop result out.new ≡ drop result out.old }
 {
-    let mut digits = Buffer::new();
-    let one_and_units = digits.format(ONE + units).as_bytes();
-    put(out, at, &one_and_units[1..])
+    if units == 0 {
+        return put(out, at, b".000000000");
+    }
+    let end = at + 10;
+    write_digits(ONE + units, out, end);
+    out[at] = b'.';
+    end
 }

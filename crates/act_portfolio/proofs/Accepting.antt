@@ -1,5 +1,5 @@
 -- The portfolio of a list of contracts, from what its steps give.
-use Rattle.std.proofs.Common.{◌≡◌, ℕ, zero, suc, ◌*◌, ◌≤◌, List, [], ◌∷◌, length, get_or, map, Some, None, option_map, Result, Ok, Err, inl, inr, refl, ap, sym, subst, ◌∙◌, arith}
+use Rattle.std.proofs.Common.{◌≡◌, ℕ, zero, suc, ◌≤◌, List, [], ◌∷◌, length, get_or, map, Some, None, option_map, Result, Ok, Err, inl, inr, refl, ap, sym, subst, ◌∙◌, arith}
 use Rattle.std.proofs.lemmas.List.{get_or_default, length-map}
 use Rattle.std.proofs.lemmas.Option.{same_Some, slice_get-map, slice_get_cases}
 use Rattle.std.proofs.lemmas.Simd.{map-map}
@@ -11,10 +11,9 @@ use Rattle.act_model.specs.declared.terms.Terms.{Terms}
 use Rattle.act_profile.specs.Outcomes.{map_ok, then_ok}
 use Rattle.act_profile.specs.Plan.{plan_of}
 use Rattle.act_terms.specs.Contract.{NamedTerms, contract_of}
-use Rattle.act_terms.specs.Used.{unused_names}
 use Rattle.serde_json.specs.Data.{Data}
-use Rattle.act_portfolio.specs.Known.{IsContract, checked_plans, childless}
-use Rattle.act_portfolio.specs.Reading.{IsAccepted, accepted, contracts_from, first_repeated, plans_from, portfolio_listed, unrepeated, within_limit}
+use Rattle.act_portfolio.specs.Known.{IsContract, checked_plans, together}
+use Rattle.act_portfolio.specs.Reading.{IsAccepted, accepted, contracts_from, first_repeated, plans_from, portfolio_listed, unrepeated, unused_lists, within_limit}
 use Rattle.act_portfolio.specs.Refusal.{Refusal, refused_terms, refusing}
 use Rattle.act_portfolio.proofs.PlannedSoFar.{each_planned}
 use Rattle.act_portfolio.proofs.ReadSoFar.{Read}
@@ -103,21 +102,26 @@ unfolding contracts_from
 as_many_read [] i names named after is = sym (ap (λ r. length (contracts_of r)) is)
 as_many_read (d ∷ ds) i names named after is = with_first ds (as_many_read ds) (suc i) named after (refusing (refused_terms i) (contract_of i names d)) is
 
-module _ (contracts : List Data) (named : List NamedTerms) (read : NameLists) (names : NameLists) (terms : List Terms) (plans : List EventPlan) (unused : List (List (List ℕ))) where
-  module _ (are_read : contracts_from zero no_names contracts ≡ Ok (named, read)) (few : length contracts ≤ 4096) (names_are : names ≡ record read { contracts = map (λ c. c.id) named }) (terms_are : terms ≡ map (λ c. c.terms) named)
-      (planned : checked_plans contracts named ≡ Ok plans) (unused_are : unused ≡ map unused_names contracts) where
-    pub whole : portfolio_listed contracts ≡ Ok (childless names terms plans unused)
-    whole = accepts contracts named read are_read plans planned ∙ rw (names_are, terms_are, unused_are, map-map) refl
+-- the lists of unused names are as many as the contracts
+unused_are_many : (named : List NamedTerms) (contracts : List Data) → length named ≡ length contracts → length (unused_lists named contracts) ≡ length named
+unused_are_many [] contracts many = refl
+unused_are_many (n ∷ named) [] many = absurd (omega arith)
+unused_are_many (n ∷ named) (d ∷ contracts) many = ap suc (unused_are_many named contracts (omega arith))
 
-    pub holds : All IsContract named → length read.codes ≤ 4 * length contracts → length read.currencies ≤ 2 * length contracts → IsAccepted names terms plans unused
-    holds known codes currencies =
+module _ (contracts : List Data) (named : List NamedTerms) (read : NameLists) (names : NameLists) (terms : List Terms) (plans : List EventPlan) (children : List (List ℕ)) (unused : List (List (List ℕ))) where
+  module _ (are_read : contracts_from zero no_names contracts ≡ Ok (named, read)) (few : length contracts ≤ 4096) (names_are : names ≡ record read { contracts = map (λ c. c.id) named }) (terms_are : terms ≡ map (λ c. c.terms) named)
+      (planned : checked_plans contracts named ≡ Ok plans) (none : children ≡ map (λ t. []) terms) (unused_are : unused ≡ unused_lists named contracts) where
+    pub whole : portfolio_listed contracts ≡ Ok (together names terms plans children unused)
+    whole = accepts contracts named read are_read plans planned ∙ rw (names_are, none, terms_are, unused_are, map-map) refl
+
+    pub holds : All IsContract named → IsAccepted names terms plans children unused
+    holds known =
         let many = as_many_read contracts zero no_names named read are_read in
         record {
           built = λ c t here. at_place (λ t. IsBuilt t.kind) named (λ k d within. (known k d within).built) c t (rw terms_are at here);
           planned = rw terms_are (each_planned (map (λ c. c.terms) named) zero plans (plans_are contracts named plans planned));
+          childless = none;
           ids = rw (names_are, terms_are) (length-map named (λ c. c.id) ∙ sym (length-map named (λ c. c.terms)));
-          unused_lists = rw (unused_are, terms_are) (omega (arith, length-map contracts unused_names, length-map named (λ c. c.terms)));
+          unused_lists = rw (unused_are, terms_are) (unused_are_many named contracts many ∙ sym (length-map named (λ c. c.terms)));
           few = rw terms_are (omega (arith, length-map named (λ c. c.terms)));
-          few_codes = rw names_are (omega arith);
-          few_currencies = rw names_are (omega arith);
         }

@@ -14,7 +14,7 @@ use Rattle.act_profile.specs.Plan.{own_count, plan_of}
 use Rattle.act_profile.specs.Reads.{cone_of, cone_to}
 use Rattle.act_profile.specs.Run.{Contracts}
 use Rattle.act_portfolio.specs.Counts.{cone_sum, counted_by, scheduled_count}
-use Rattle.act_portfolio.specs.Known.{childless}
+use Rattle.act_portfolio.specs.Known.{together}
 use Rattle.act_portfolio.specs.Reading.{IsAccepted}
 use Rattle.act_portfolio.proofs.Accepting.{plan_at}
 use Rattle.act_portfolio.proofs.PlanLengths.{plan_is_within}
@@ -42,20 +42,20 @@ weight_of_one contracts c alone = rw (cone_of_one contracts c alone) (omega arit
 
 -- ---- an accepted portfolio
 
-module _ (names : NameLists) (terms : List Terms) (plans : List EventPlan) (unused : List (List (List ℕ))) (is : IsAccepted names terms plans unused) (c : ℕ) (within : c < length terms) where
-  pub no_children : slice_get (map {B = List ℕ} (λ t. []) terms) c ≡ Some []
+module _ (names : NameLists) (terms : List Terms) (plans : List EventPlan) (children : List (List ℕ)) (unused : List (List (List ℕ))) (is : IsAccepted names terms plans children unused) (c : ℕ) (within : c < length terms) where
+  pub no_children : slice_get children c ≡ Some []
   no_children = elim (slice_get_cases terms c).1 [
-    | inl here ↦ slice_get-map (λ t. []) terms c ∙ ap (option_map (λ t. [])) here.2
+    | inl here ↦ ap (λ lists. slice_get lists c) is.childless ∙ slice_get-map (λ t. []) terms c ∙ ap (option_map (λ t. [])) here.2
     | inr past ↦ absurd (omega arith)
   ]
 
   pub planned_within : c < length plans
   planned_within = omega (arith, sym (length-map terms plan_of) ∙ ap length is.planned ∙ length-map plans Ok)
 
-  pub counted : (plan : EventPlan) → plan ≡ get_or plans c plan → (scheduled_count (childless names terms plans unused).contracts c ≡ length plan.events) × (length plan.events ≤ 4096)
+  pub counted : (plan : EventPlan) → plan ≡ get_or plans c plan → (scheduled_count (together names terms plans children unused).contracts c ≡ length plan.events) × (length plan.events ≤ 4096)
   counted plan planned = elim (slice_get_cases terms c).1 [
     | inl here ↦
         let built = is.built c here.0 here.2 in
-        (count_of_plan (childless names terms plans unused).contracts c here.0 plan here.2 (slice_get-get_or plans c plan planned_within ∙ ap Some (sym planned)) built, plan_is_within here.0 plan built (plan_at terms plans is.planned c here.0 plan here.2 planned))
+        (count_of_plan (together names terms plans children unused).contracts c here.0 plan here.2 (slice_get-get_or plans c plan planned_within ∙ ap Some (sym planned)) built, plan_is_within here.0 plan built (plan_at terms plans is.planned c here.0 plan here.2 planned))
     | inr past ↦ absurd (omega arith)
   ]

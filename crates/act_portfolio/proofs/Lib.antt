@@ -6,3 +6,4 @@ pub mod NamedSoFar
 pub mod PlanLengths
 pub mod PlannedSoFar
 pub mod ReadSoFar
+pub mod UnusedSoFar

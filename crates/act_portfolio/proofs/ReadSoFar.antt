@@ -1,11 +1,10 @@
 -- The contracts of a list, read one by one.
-use Rattle.std.proofs.Common.{◌≡◌, ℕ, zero, suc, ◌+◌, ◌*◌, ◌≤◌, List, [], ◌∷◌, ◌++◌, length, Result, Ok, Err, refl, ap, sym, ◌∙◌, add-one, append_assoc, append-nil, arith}
+use Rattle.std.proofs.Common.{◌≡◌, ℕ, zero, suc, ◌+◌, List, [], ◌∷◌, ◌++◌, length, Result, Ok, Err, refl, ap, sym, ◌∙◌, add-one, append_assoc, append-nil, arith}
 use Rattle.std.proofs.lemmas.List.Elements.{All-append}
 use Rattle.std.specs.List.{All}
 use Rattle.act_model.specs.Names.{NameLists, no_names}
 use Rattle.act_profile.specs.Outcomes.{then_ok}
 use Rattle.act_terms.specs.Contract.{NamedTerms, contract_of}
-use Rattle.act_terms.specs.Names.{GrewBy}
 use Rattle.serde_json.specs.Data.{Data}
 use Rattle.act_portfolio.specs.Known.{IsContract}
 use Rattle.act_portfolio.specs.Reading.{contracts_from}
@@ -31,16 +30,12 @@ behind-behind read c (Err refusal) = refl
 pub record IsReadTo (contracts left : List Data) (read : List NamedTerms) (names : NameLists) (i : ℕ) : Type 0 where
   pub is : contracts_from zero no_names contracts ≡ behind read (contracts_from i names left)
   pub known : All IsContract read
-  pub few_codes : length names.codes ≤ 4 * i
-  pub few_currencies : length names.currencies ≤ 2 * i
   pub unnamed : names.contracts ≡ []
 
 pub none_read : (contracts : List Data) (names : NameLists) → names ≡ no_names → IsReadTo contracts contracts [] names 0
 none_read contracts names fresh = record {
   is = rw fresh (behind-nil _);
   known = λ k d within. absurd (omega arith);
-  few_codes = rw fresh (omega arith);
-  few_currencies = rw fresh (omega arith);
   unnamed = rw fresh refl;
 }
 
@@ -57,13 +52,11 @@ one_known c is zero d within = is
 one_known c is (suc k) d within = absurd (omega arith)
 
 pub one_read : (contracts left more : List Data) (read : List NamedTerms) (names after : NameLists) (i : ℕ) (d : Data) (c : NamedTerms) → IsReadTo contracts left read names i → left ≡ d ∷ more
-    → contract_of i names d ≡ Ok (c, after) → IsContract c → GrewBy 4 2 names after → IsReadTo contracts more (read ++ c ∷ []) after (i + 1)
-one_read contracts left more read names after i d c so_far here is known grew = record {
+    → contract_of i names d ≡ Ok (c, after) → IsContract c → after.contracts ≡ names.contracts → IsReadTo contracts more (read ++ c ∷ []) after (i + 1)
+one_read contracts left more read names after i d c so_far here is known kept = record {
   is = so_far.is ∙ ap (behind read) (ap (contracts_from i names) here ∙ first_read i names after d more c is) ∙ behind-behind read c _ ∙ ap (λ n. behind (read ++ c ∷ []) (contracts_from n after more)) (sym (add-one i));
   known = All-append IsContract read (c ∷ []) so_far.known (one_known c known);
-  few_codes = let old = so_far.few_codes in let more = grew.by_codes in omega arith;
-  few_currencies = let old = so_far.few_currencies in let more = grew.by_currencies in omega arith;
-  unnamed = grew.contracts ∙ so_far.unnamed;
+  unnamed = kept ∙ so_far.unnamed;
 }
 
 first_refused : (i : ℕ) (names : NameLists) (d : Data) (ds : List Data) (refusal : Refusal) → refusing (refused_terms i) (contract_of i names d) ≡ Err refusal → contracts_from i names (d ∷ ds) ≡ Err refusal

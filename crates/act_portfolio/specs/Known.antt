@@ -24,10 +24,10 @@ checked_plans contracts named = do
   ids ← unrepeated (first_repeated [] (map (λ (c : NamedTerms). c.id) named)) (map (λ (c : NamedTerms). c.id) named)
   plans_from zero (map (λ (c : NamedTerms). c.terms) named)
 
--- the portfolio of contracts that refer to no others
-abbrev pub childless : NameLists → List Terms → List EventPlan → List (List (List ℕ)) → Accepted
-childless names terms plans unused = record {
+-- what a portfolio has, together
+abbrev pub together : NameLists → List Terms → List EventPlan → List (List ℕ) → List (List (List ℕ)) → Accepted
+together names terms plans children unused = record {
   names = names;
-  contracts = record { terms = terms; plans = plans; children = map (λ t. []) terms };
+  contracts = record { terms = terms; plans = plans; children = children };
   unused = unused;
 }

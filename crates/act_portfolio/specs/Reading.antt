@@ -1,7 +1,9 @@
 -- What the bytes of a portfolio file are: the contracts with their names, terms and plans, or the first refusal. ACTUS data dictionary; the
 -- refusals and their order are this profile's own.
-use Rattle.std.specs.Prelude.{◌≡◌, ℕ, zero, suc, ◌*◌, ◌≤◌, ◌++◌, slice_get, nat_lt, if◌then◌else◌, is_some, List, [], ◌∷◌, length, map, Option, Some, None, Result, Ok, Err}
+use Rattle.std.specs.Prelude.{◌≡◌, ℕ, zero, suc, ◌≤◌, ◌++◌, slice_get, nat_lt, if◌then◌else◌, is_some, List, [], ◌∷◌, length, map, Option, Some, None, Result, Ok, Err}
 use Rattle.act_json.specs.Reading.{json_of}
+use Rattle.std.specs.List.{zip}
+use Rattle.act_model.specs.Kind.{type_of}
 use Rattle.act_model.specs.Limits.{most_contracts}
 use Rattle.act_model.specs.Names.{NameLists, no_names, place_of}
 use Rattle.act_model.specs.Run.{EventPlan}
@@ -67,13 +69,17 @@ plans_from number (terms ∷ others) = do
 
 -- ---- the portfolio
 
+-- for each contract that is read, the names of its object that aren't terms of its type
+abbrev pub unused_lists : List NamedTerms → List Data → List (List (List ℕ))
+unused_lists named contracts = map (λ (one : NamedTerms × Data). unused_names (type_of one.0.terms.kind) one.1) (zip named contracts)
+
 -- the contracts together; none of them refers to others
 abbrev pub accepted : List Data → List NamedTerms → NameLists → List EventPlan → Accepted
 accepted contracts named names plans =
     record {
       names = record names { contracts = map (λ (c : NamedTerms). c.id) named };
       contracts = record { terms = map (λ (c : NamedTerms). c.terms) named; plans = plans; children = map (λ (c : NamedTerms). []) named };
-      unused = map unused_names contracts;
+      unused = unused_lists named contracts;
     }
 
 -- the portfolio of a list of contracts
@@ -94,13 +100,12 @@ portfolio_of bytes = do
 
 -- ---- what is true of an accepted portfolio
 
--- each contract is of a kind that is built, and its plan is that of its terms; for each there is a name and a list of unused names; there
--- are at most 4,096, and they name at most four market objects and two currencies each
-pub record IsAccepted (names : NameLists) (terms : List Terms) (plans : List EventPlan) (unused : List (List (List ℕ))) : Type 0 where
+-- each contract is of a kind that is built, and its plan is that of its terms; it refers to no others; for each there is a name and a list
+-- of unused names; there are at most 4,096
+pub record IsAccepted (names : NameLists) (terms : List Terms) (plans : List EventPlan) (children : List (List ℕ)) (unused : List (List (List ℕ))) : Type 0 where
   pub built : (c : ℕ) (t : Terms) → slice_get terms c ≡ Some t → IsBuilt t.kind
   pub planned : map plan_of terms ≡ map Ok plans
+  pub childless : children ≡ map (λ t. []) terms
   pub ids : length names.contracts ≡ length terms
   pub unused_lists : length unused ≡ length terms
   pub few : length terms ≤ most_contracts
-  pub few_codes : length names.codes ≤ 4 * most_contracts
-  pub few_currencies : length names.currencies ≤ 2 * most_contracts

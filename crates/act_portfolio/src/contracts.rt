@@ -1,10 +1,9 @@
 //! The contracts of a list, each by its terms.
-ghost use Rattle.std.specs.Prelude.{◌≡◌, ◌*◌, ◌+◌, ◌^◌, ◌<◌, ◌≤◌, [], Ok, Err, IfOk, IfErr, IfSome, OnOk, length, map, zero};
+ghost use Rattle.std.specs.Prelude.{◌≡◌, ◌^◌, ◌<◌, ◌≤◌, [], Ok, Err, IfOk, IfErr, IfSome, OnOk, length, map, zero};
 ghost use Rattle.std.specs.List.{All};
 ghost use Rattle.serde_json.specs.View.{view};
 ghost use Rattle.act_model.specs.Names.{no_names};
 ghost use Rattle.act_terms.specs.Contract.{contract_of};
-ghost use Rattle.act_terms.specs.Names.{GrewBy, HasRoom};
 ghost use Rattle.act_portfolio.specs.Known.{IsContract};
 ghost use Rattle.act_portfolio.specs.Reading.{contracts_from};
 ghost use Rattle.act_portfolio.specs.Refusal.{refusal_of, refused_terms, refusing};
@@ -28,8 +27,6 @@ pub(crate) fn read_contracts(
     ensures refused { IfErr result (λ fault. IfSome (refusal_of fault) (λ refusal.
         contracts_from zero no_names (map view contracts.now) ≡ Err refusal)) }
     ensures contracts { IfOk result (λ named. All IsContract named.items) }
-    ensures few_codes { OnOk result (length names.new.codes ≤ 4 * length contracts.now) }
-    ensures few_currencies { OnOk result (length names.new.currencies ≤ 2 * length contracts.now) }
     ensures unnamed { OnOk result (names.new.contracts ≡ []) }
 {
     let mut named = Vec::new(alloc);
@@ -47,13 +44,12 @@ fn next_contract(
     number: u32,
     names: &mut Names,
 ) -> Result<NamedTerms, PortfolioFault>
-    requires room { HasRoom 4 2 names.old }
     requires number { number < 2 ^ 28 }
     ensures read { IfOk result (λ named. contract_of number names.old (view contract.now) ≡ Ok (named, names.new)) }
     ensures refused { IfErr result (λ fault. IfSome (refusal_of fault) (λ refusal.
         refusing (refused_terms number) (contract_of number names.old (view contract.now)) ≡ Err refusal)) }
     ensures contract { IfOk result (λ named. IsContract named) }
-    ensures grew { OnOk result (GrewBy 4 2 names.old names.new) }
+    ensures contracts { OnOk result (names.new.contracts ≡ names.old.contracts) }
 {
     match read_contract(alloc, contract, number, names) {
         Ok(named) => Ok(named),

@@ -1,11 +1,10 @@
-//! The plans of contracts, and the names that their objects don't use.
+//! The plans of contracts, and the names that their types don't use.
 ghost use Rattle.std.specs.Prelude.{◌≡◌, ◌<◌, ◌≤◌, ◌^◌, Ok, Err, IfOk, IfErr, IfSome, length, map, string_bytes, zero};
 ghost use Rattle.std.specs.List.{All};
 ghost use Rattle.serde_json.specs.View.{view};
 ghost use Rattle.act_profile.specs.Plan.{plan_of};
-ghost use Rattle.act_terms.specs.Used.{unused_names};
 ghost use Rattle.act_portfolio.specs.Known.{IsContract};
-ghost use Rattle.act_portfolio.specs.Reading.{plans_from};
+ghost use Rattle.act_portfolio.specs.Reading.{plans_from, unused_lists};
 ghost use Rattle.act_portfolio.specs.Refusal.{refusal_of, refused_plan, refusing};
 
 use crate::fault::{PortfolioFault, refused_plan};
@@ -49,13 +48,19 @@ fn next_plan(alloc: Global, contract: &NamedTerms, place: u32) -> Result<Plan, P
     }
 }
 
-/// For each contract of a list, the names of its object that aren't terms of its kind.
-pub(crate) fn unused_lists(alloc: Global, contracts: &[Value]) -> Result<Vec<Vec<String>>, NoMemory>
-    ensures { IfOk result (λ unused. map (λ u. map string_bytes u.items) unused.items ≡ map unused_names (map view contracts.now)) }
+/// For each contract of a list that is read, the names of its object that aren't terms of its type.
+pub(crate) fn unused_lists(
+    alloc: Global,
+    contracts: &[Value],
+    named: &[NamedTerms],
+) -> Result<Vec<Vec<String>>, NoMemory>
+    requires all { length named.now ≡ length contracts.now }
+    ensures { IfOk result (λ unused. map (λ u. map string_bytes u.items) unused.items ≡ unused_lists named.now (map view contracts.now)) }
 {
     let mut lists = Vec::new(alloc);
-    for contract in contracts {
-        let unused = unused_names(alloc, contract)?;
+    for (place, contract) in named.iter().enumerate() {
+        let contract_type = contract.terms.kind.contract_type();
+        let unused = unused_names(alloc, contract_type, &contracts[place])?;
         lists.push(unused)?;
     }
     Ok(lists)

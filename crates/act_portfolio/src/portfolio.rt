@@ -14,25 +14,26 @@ use act_num::NoMemory;
 use std::alloc::Global;
 use std::marker::Model;
 
-/// The contracts of an accepted portfolio, numbered from 0 in portfolio order, with the plan of each, what they name, and
-/// the names of each object that the contract's kind doesn't use.
+/// The contracts of an accepted portfolio, numbered from 0 in portfolio order, with the plan of each, the contracts that it
+/// refers to, what they name, and the names of each object that the contract's kind doesn't use.
 #[derive(Drop)]
 pub struct Portfolio {
     pub(crate) names: Names,
     pub(crate) terms: Vec<Terms>,
     pub(crate) plans: Vec<Plan>,
+    pub(crate) children: Vec<Vec<u32>>,
     pub(crate) unused: Vec<Vec<String>>,
 }
 
 impl Model for Portfolio {
-    ghost use Rattle.std.specs.Prelude.{[], map, string_bytes};
+    ghost use Rattle.std.specs.Prelude.{map, string_bytes};
     ghost use Rattle.act_portfolio.specs.Reading.{Accepted, IsAccepted};
 
     ghost Value = { Accepted };
 
-    ghost view = { λ p. record { names = p.names; contracts = record { terms = p.terms.items; plans = p.plans.items; children = map (λ t. []) p.terms.items }; unused = map (λ u. map string_bytes u.items) p.unused.items } };
+    ghost view = { λ p. record { names = p.names; contracts = record { terms = p.terms.items; plans = p.plans.items; children = map (λ c. c.items) p.children.items }; unused = map (λ u. map string_bytes u.items) p.unused.items } };
 
-    ghost invariant = { λ p. IsAccepted p.names p.terms.items p.plans.items (map (λ u. map string_bytes u.items) p.unused.items) };
+    ghost invariant = { λ p. IsAccepted p.names p.terms.items p.plans.items (map (λ c. c.items) p.children.items) (map (λ u. map string_bytes u.items) p.unused.items) };
 }
 
 impl Portfolio {
@@ -73,9 +74,7 @@ impl Portfolio {
         requires contract { contract < length self.now.contracts.terms }
         ensures { slice_get self.now.contracts.children contract ≡ Some result.now }
     {
-        // No kind that is built refers to others.
-        let _ = &self.terms;
-        &[]
+        &self.children[contract as usize]
     }
 
     /// How many contracts have a name: all that the file has.

@@ -7,10 +7,11 @@ ghost use Rattle.serde_json.specs.Find.{as_array};
 ghost use Rattle.serde_json.specs.View.{items_view, view};
 ghost use Rattle.act_json.specs.Reading.{json_of};
 ghost use Rattle.act_model.specs.Names.{no_names};
-ghost use Rattle.act_portfolio.specs.Known.{IsContract, checked_plans, childless};
+ghost use Rattle.act_portfolio.specs.Known.{IsContract, checked_plans, together};
 ghost use Rattle.act_portfolio.specs.Reading.{IsAccepted, list_of, portfolio_listed, portfolio_of, within_limit};
 ghost use Rattle.act_portfolio.specs.Refusal.{no_json, refusal_of, refusing};
 
+use crate::children::child_lists;
 use crate::contracts::{read_contracts, terms_alone};
 use crate::fault::{PortfolioFault, refused};
 use crate::names::name_contracts;
@@ -22,11 +23,12 @@ use act_terms::NamedTerms;
 use serde_json::Value;
 use std::alloc::Global;
 
-/// The terms of contracts, their plans, and the names that their objects don't use.
+/// The terms of contracts, their plans, the contracts that they refer to, and the names that their types don't use.
 #[derive(Drop)]
 struct Contracts {
     terms: Vec<Terms>,
     plans: Vec<Plan>,
+    children: Vec<Vec<u32>>,
     unused: Vec<Vec<String>>,
 }
 
@@ -79,12 +81,14 @@ fn portfolio_listed(alloc: Global, contracts: &[Value]) -> Result<Portfolio, Por
     let Contracts {
         terms,
         plans,
+        children,
         unused,
     } = accepted(alloc, contracts, &mut names)?;
     Ok(Portfolio {
         names,
         terms,
         plans,
+        children,
         unused,
     })
 }
@@ -98,19 +102,21 @@ fn accepted(
     requires few { length contracts.now ≤ 2 ^ 28 }
     requires fresh { names.old ≡ no_names }
     ensures accepted { IfOk result (λ read. portfolio_listed (map view contracts.now)
-        ≡ Ok (childless names.new read.terms.items read.plans.items (map (λ u. map string_bytes u.items) read.unused.items))) }
+        ≡ Ok (together names.new read.terms.items read.plans.items (map (λ c. c.items) read.children.items) (map (λ u. map string_bytes u.items) read.unused.items))) }
     ensures holds { IfOk result (λ read.
-        IsAccepted names.new read.terms.items read.plans.items (map (λ u. map string_bytes u.items) read.unused.items)) }
+        IsAccepted names.new read.terms.items read.plans.items (map (λ c. c.items) read.children.items) (map (λ u. map string_bytes u.items) read.unused.items)) }
     ensures refused { IfErr result (λ fault. IfSome (refusal_of fault) (λ refusal.
         portfolio_listed (map view contracts.now) ≡ Err refusal)) }
 {
     let named = read_contracts(alloc, contracts, names)?;
     let plans = checked_plans(alloc, contracts, &named, names)?;
-    let unused = unused_lists(alloc, contracts)?;
+    let unused = unused_lists(alloc, contracts, &named)?;
     let terms = terms_alone(alloc, named)?;
+    let children = child_lists(alloc, &terms)?;
     Ok(Contracts {
         terms,
         plans,
+        children,
         unused,
     })
 }

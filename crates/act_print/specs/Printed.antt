@@ -1,5 +1,6 @@
 -- What is printed of answers: lists in place of vectors. This profile's own.
 use Rattle.std.specs.Prelude.{ℕ, List, map}
+use Rattle.act_model.specs.Answer.{Reply}
 use Rattle.act_model.specs.Run.{Stream}
 use Rattle.act_model.specs.declared.journal.Item.{Item}
 use Rattle.act_model.specs.declared.run.Close.{Close}
@@ -32,3 +33,7 @@ printed_row row =
 -- what is printed of a contract's run
 abbrev pub printed_block : ℕ × Stream → Block
 printed_block run = record { contract = run.0; rows = map printed_row run.1.rows; close = run.1.close }
+
+-- what is printed of an answer
+abbrev pub printed_answer : Reply → Response
+printed_answer answer = record { caller = answer.caller; number = answer.number; version = answer.version; blocks = map printed_block answer.runs }

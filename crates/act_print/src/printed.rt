@@ -62,7 +62,7 @@ impl Model for PrintedBlock {
 }
 
 /// What is printed of a row. Amounts and rates are in units of 10^-9.
-#[derive(Clone, Copy, Debug, PartialEq, Eq)]
+#[derive(Clone, Copy, PartialEq, Eq)]
 pub struct PrintedRow {
     /// The event's day.
     pub day: Day,

@@ -1,10 +1,10 @@
+pub mod Answers
 pub mod Built
 pub mod Contract
 pub mod Credit
 pub mod Dates
 pub mod Equity
 pub mod Events
-pub mod Examples
 pub mod Exercise
 pub mod Formula
 pub mod Kept
@@ -19,12 +19,9 @@ pub mod Plan
 pub mod Planning
 pub mod Reads
 pub mod Run
-pub mod Special
 pub mod States
 pub mod Step
 pub mod Steps
 pub mod Stops
 pub mod Swap
-pub mod Tables
 pub mod Trade
-pub mod Worked

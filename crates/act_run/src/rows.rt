@@ -8,7 +8,7 @@ ghost use Rattle.act_profile.specs.Run.{close_of, row_of, rows_from, stopped_at_
 ghost use Rattle.act_profile.specs.Steps.{currency_of, step_of};
 
 use act_contract::{currency_of, step};
-use act_model::{Close, Event, Observed, Plan, Row, Run, State, Stop, Terms};
+use act_model::{Close, Event, Observed, Plan, Row, Rows, Run, State, Stop, Terms};
 use act_num::{NoMemory, Steps};
 use std::alloc::Global;
 use std::sync::ledger::Ledger;
@@ -29,13 +29,13 @@ pub fn rows_from<O: Observed, L: Ledger>(
         ≡ rows_from (step_of terms.now plan.now (O.entries seen.now) []) (currency_of terms.now []) first events.now) }
     ensures ticked { IfOk result (λ run. steps.new ≡ steps.old + length run.rows) }
 {
-    let mut rows = Vec::with_capacity(alloc, events.len())?;
+    let mut rows = Rows::with_capacity(alloc, events.len())?;
     let mut state = first;
     'events: for event in events {
         match next_row(terms, plan, &state, event, seen, steps) {
             Ok(row) => {
                 state = row.state;
-                rows.push(row)?;
+                rows.push(&row)?;
             }
             Err(stop) => {
                 let close = close_of(stop);
@@ -54,7 +54,7 @@ pub fn stopped_at_once(alloc: Global, stop: Stop) -> Run
     ensures { result ≡ stopped_at_once stop }
 {
     Run {
-        rows: Vec::new(alloc),
+        rows: Rows::new(alloc),
         close: close_of(stop),
     }
 }

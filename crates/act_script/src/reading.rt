@@ -1,5 +1,5 @@
 //! Reading a script.
-ghost use Rattle.std.specs.Prelude.{◌≡◌, ◌≢◌, ◌^◌, ◌+◌, ◌<◌, ◌≤◌, Ok, Err, true, length, count_by, IfOk, IfErr, OnOk};
+ghost use Rattle.std.specs.Prelude.{◌≡◌, ◌≢◌, ◌+◌, ◌≤◌, Ok, Err, true, length, count_by, IfOk, IfErr, OnOk};
 ghost use Rattle.std.specs.List.{All};
 ghost use Rattle.std.specs.Option.{ok_or};
 ghost use Rattle.act_script.specs.Form.{form_of};
@@ -40,7 +40,6 @@ pub fn read_script(
 ) -> Result<Vec<Line>, ScriptFault>
     requires size { length bytes.now ≤ MOST_BYTES }
     requires entries { entries.old ≤ MOST_ENTRIES }
-    requires codes { length names.old.codes < 2 ^ 30 }
     ensures script { IfOk result (λ lines. script_of bytes.now names.old kinds.now entries.old
         ≡ Ok (record { lines = lines.items; names = names.new; entries = entries.new })) }
     ensures refused { IfErr result (λ fault. fault ≢ ScriptFault.NoMemory
@@ -80,7 +79,6 @@ impl Script {
         names: &mut Names,
         kinds: &[Terms],
     ) -> Result<(), ScriptFault>
-        requires room { length names.old.codes < 2 ^ 31 }
         ensures script { IfOk result (λ _.
             with_text kinds.now (record { lines = self.old.lines.items; names = names.old; entries = self.old.entries }) number text.now
             ≡ Ok (record { lines = self.new.lines.items; names = names.new; entries = self.new.entries })) }

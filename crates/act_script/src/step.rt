@@ -1,5 +1,5 @@
 //! The step of a line.
-ghost use Rattle.std.specs.Prelude.{◌≡◌, ◌≢◌, ◌^◌, ◌<◌, Err, length, IfOk, IfErr};
+ghost use Rattle.std.specs.Prelude.{◌≡◌, ◌≢◌, Err, IfOk, IfErr};
 ghost use Rattle.act_script.specs.Step.{contract_of, entries_with, event_step, fits, fits_contract, is_early_option, is_loan, is_stock, names_with, step_of};
 
 use crate::ScriptFault;
@@ -17,7 +17,6 @@ pub(crate) fn step(
     names: &mut Names,
     kinds: &[Terms],
 ) -> Result<Step, ScriptFault>
-    requires room { length names.old.codes < 2 ^ 31 }
     ensures step { result ≢ Err ScriptFault.NoMemory → result ≡ step_of names.old kinds.now number form }
     ensures names { IfOk result (λ _. names.new ≡ names_with form names.old) }
     ensures unchanged { IfErr result (λ _. names.new ≡ names.old) }

@@ -12,7 +12,7 @@ use std::marker::Model;
 pub const MOST_WEIGHT: u64 = 4_194_304;
 
 /// What an ask of all named contracts weighs by.
-#[derive(Clone, Copy, Debug, PartialEq, Eq)]
+#[derive(Clone, Copy, PartialEq, Eq)]
 pub struct All {
     /// The sum of their cone sums.
     pub weight: u64,

@@ -1,5 +1,5 @@
 pub mod Among
 pub mod CodeNames
-pub mod PamTerms
-pub mod Room
+pub mod NamesKept
+pub mod TermNames
 pub mod WithoutWant

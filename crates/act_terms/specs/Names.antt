@@ -1,5 +1,5 @@
 -- The names that terms give, and their numbers. This profile's own.
-use Rattle.std.specs.Prelude.{◌≡◌, ℕ, ◌^◌, ◌+◌, ◌≤◌, ◌&&◌, not, if◌then◌else◌, Bool, List, ◌++◌, length, codes, Option, Some, None, Result, Ok}
+use Rattle.std.specs.Prelude.{ℕ, ◌&&◌, not, if◌then◌else◌, Bool, List, ◌++◌, codes, Option, Some, None, Result, Ok}
 use Rattle.std.specs.Str.{bytes_eq}
 use Rattle.act_json.specs.Fields.{field_of, meaning_of, word_field}
 use Rattle.act_json.specs.declared.fault.JsonFault.{JsonFault}
@@ -74,16 +74,3 @@ currencies_of names contract = do
   currency ← needed (codes "currency") (currency_field (codes "currency") contract)
   settlement ← optional (codes "settlementCurrency") (currency_field (codes "settlementCurrency") contract)
   Ok (numbered_currencies currency settlement names)
-
--- ---- how many names are added
-
--- there is room for so many more codes and currencies
-pub record HasRoom (codes currencies : ℕ) (names : NameLists) : Type 0 where
-  pub for_codes : length names.codes + codes ≤ 2 ^ 31
-  pub for_currencies : length names.currencies + currencies ≤ 2 ^ 31
-
--- at most so many codes and currencies are new, and no contracts
-pub record GrewBy (codes currencies : ℕ) (old new : NameLists) : Type 0 where
-  pub by_codes : length new.codes ≤ length old.codes + codes
-  pub by_currencies : length new.currencies ≤ length old.currencies + currencies
-  pub contracts : new.contracts ≡ old.contracts

@@ -1,7 +1,9 @@
--- Which names of a contract's object are terms of its kind. ACTUS data dictionary.
+-- Which names of a contract's object are terms of its type. ACTUS data dictionary.
 use Rattle.std.specs.Prelude.{ℕ, not, Bool, List, [], ◌∷◌, ◌++◌, codes}
 use Rattle.std.specs.List.{filter, list_any}
 use Rattle.std.specs.Str.{bytes_eq}
+use Rattle.act_model.specs.declared.choice.ContractType.{ContractType}
+use Rattle.act_model.specs.declared.choice.ContractType.TheVariants as type
 use Rattle.serde_json.specs.Data.{Data, object, Members, no_members, member}
 
 -- the terms that every contract has, in the order in which they are read
@@ -23,16 +25,21 @@ loan_terms =
 abbrev pub is_among : List (List ℕ) → List ℕ → Bool
 is_among names name = list_any (λ n. bytes_eq n name) names
 
--- a name is a term of a PAM
-unfoldable pub is_pam_term : List ℕ → Bool
-is_pam_term name = is_among (common_terms ++ loan_terms) name
+-- the terms of a type; of a type that isn't read yet those that every contract has
+abbrev pub terms_named : ContractType → List (List ℕ)
+terms_named type.PAM = common_terms ++ loan_terms
+terms_named other = common_terms
+
+-- a name is a term of that type
+unfoldable pub is_term_of : ContractType → List ℕ → Bool
+is_term_of type name = is_among (terms_named type) name
 
 -- the names of an object, which has each once, in byte order
 abbrev pub member_names : Members → List (List ℕ)
 member_names no_members = []
 member_names (member name value members) = name ∷ member_names members
 
--- the names of a contract's object that aren't terms of its kind, in byte order
-unfoldable pub unused_names : Data → List (List ℕ)
-unused_names (object members) = filter (λ name. not (is_pam_term name)) (member_names members)
-unused_names other = []
+-- the names of a contract's object that aren't terms of that type, in byte order
+unfoldable pub unused_names : ContractType → Data → List (List ℕ)
+unused_names type (object members) = filter (λ name. not (is_term_of type name)) (member_names members)
+unused_names type other = []

@@ -1,8 +1,7 @@
 //! The terms that every contract has.
-ghost use Rattle.std.specs.Prelude.{◌≡◌, ◌≢◌, Ok, Err, IfOk, IfErr, OnOk};
+ghost use Rattle.std.specs.Prelude.{◌≡◌, ◌≢◌, Ok, Err, IfOk, IfErr};
 ghost use Rattle.serde_json.specs.View.{view};
 ghost use Rattle.act_terms.specs.Common.{business_days_of, common_of, position_of, trades_of};
-ghost use Rattle.act_terms.specs.Names.{GrewBy, HasRoom};
 
 use crate::choices::choice_in;
 use crate::currencies::{code_where, read_currencies};
@@ -46,11 +45,9 @@ pub(crate) fn read_common(
     number: u32,
     names: &mut Names,
 ) -> Result<Common, TermsFault>
-    requires room { HasRoom 2 2 names.old }
     ensures read { IfOk result (λ common. common_of number names.old (view contract.now) ≡ Ok (common, names.new)) }
     ensures refused { IfErr result (λ fault. fault ≢ TermsFault.NoMemory
         → common_of number names.old (view contract.now) ≡ Err fault) }
-    ensures grew { OnOk result (GrewBy 2 2 names.old names.new) }
 {
     let position = read_position(contract)?;
     let money = read_currencies(alloc, contract, names)?;

@@ -5,7 +5,6 @@ ghost use Rattle.serde_json.specs.View.{view};
 ghost use Rattle.act_profile.specs.Built.{IsBuilt};
 ghost use Rattle.act_model.specs.Name.{is_name};
 ghost use Rattle.act_terms.specs.Contract.{contract_of, contract_type, named_terms_of, pam_terms_of, terms_of};
-ghost use Rattle.act_terms.specs.Names.{GrewBy, HasRoom};
 
 use crate::common::read_common;
 use crate::currencies::contract_id;
@@ -38,8 +37,7 @@ impl Model for NamedTerms {
 
 /// The contract of that number, from its JSON object: its name and its terms, each by its name in the dictionary. Names
 /// that aren't terms of its kind are passed over; [`unused_names`] has them. The codes and currencies that the terms
-/// name have their numbers among `names`, behind those of the contracts before; at most four codes and two currencies
-/// are added, and room for them is required. The contract's own name isn't added.
+/// name have their numbers among `names`, behind those of the contracts before. The contract's own name isn't added.
 ///
 /// Refused where a term is, with the first one in the order of this profile's tables: first the terms that every
 /// contract has, then those of its kind; that a penalty of lost interest needs the code of the reset rate is tried
@@ -52,14 +50,13 @@ pub fn read_contract(
     number: u32,
     names: &mut Names,
 ) -> Result<NamedTerms, TermsFault>
-    requires room { HasRoom 4 2 names.old }
     ensures read { IfOk result (λ named. contract_of number names.old (view contract.now) ≡ Ok (named, names.new)) }
     ensures refused { IfErr result (λ fault. fault ≢ TermsFault.NoMemory
         → contract_of number names.old (view contract.now) ≡ Err fault) }
     ensures name { IfOk result (λ named. is_name named.id ≡ true) }
     ensures no_star { IfOk result (λ named. bytes_eq named.id (codes "*") ≡ false) }
     ensures built { IfOk result (λ named. IsBuilt named.terms.kind) }
-    ensures grew { OnOk result (GrewBy 4 2 names.old names.new) }
+    ensures contracts { OnOk result (names.new.contracts ≡ names.old.contracts) }
 {
     if !contract.is_object() {
         return Err(refused(TermCause::WrongShape, "-"));
@@ -75,14 +72,12 @@ fn read_named_terms(
     number: u32,
     names: &mut Names,
 ) -> Result<NamedTerms, TermsFault>
-    requires room { HasRoom 4 2 names.old }
     ensures read { IfOk result (λ named. named_terms_of number names.old (view contract.now) ≡ Ok (named, names.new)) }
     ensures refused { IfErr result (λ fault. fault ≢ TermsFault.NoMemory
         → named_terms_of number names.old (view contract.now) ≡ Err fault) }
     ensures name { IfOk result (λ named. is_name named.id ≡ true) }
     ensures no_star { IfOk result (λ named. bytes_eq named.id (codes "*") ≡ false) }
     ensures built { IfOk result (λ named. IsBuilt named.terms.kind) }
-    ensures grew { OnOk result (GrewBy 4 2 names.old names.new) }
 {
     let id = contract_id(alloc, contract)?;
     let contract_type = contract_type(contract)?;
@@ -111,12 +106,10 @@ fn read_terms(
     number: u32,
     names: &mut Names,
 ) -> Result<Terms, TermsFault>
-    requires room { HasRoom 4 2 names.old }
     ensures read { IfOk result (λ terms. terms_of contract_type number names.old (view contract.now) ≡ Ok (terms, names.new)) }
     ensures refused { IfErr result (λ fault. fault ≢ TermsFault.NoMemory
         → terms_of contract_type number names.old (view contract.now) ≡ Err fault) }
     ensures built { IfOk result (λ terms. IsBuilt terms.kind) }
-    ensures grew { OnOk result (GrewBy 4 2 names.old names.new) }
 {
     match contract_type {
         ContractType::PAM => read_pam_terms(alloc, contract, number, names),
@@ -132,12 +125,10 @@ fn read_pam_terms(
     number: u32,
     names: &mut Names,
 ) -> Result<Terms, TermsFault>
-    requires room { HasRoom 4 2 names.old }
     ensures read { IfOk result (λ terms. pam_terms_of number names.old (view contract.now) ≡ Ok (terms, names.new)) }
     ensures refused { IfErr result (λ fault. fault ≢ TermsFault.NoMemory
         → pam_terms_of number names.old (view contract.now) ≡ Err fault) }
     ensures built { IfOk result (λ terms. IsBuilt terms.kind) }
-    ensures grew { OnOk result (GrewBy 4 2 names.old names.new) }
 {
     let common = read_common(alloc, contract, number, names)?;
     let pam = read_pam(alloc, contract, names)?;

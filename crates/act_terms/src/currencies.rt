@@ -1,12 +1,12 @@
 //! The names that terms give, and their numbers.
-ghost use Rattle.std.specs.Prelude.{◌≡◌, ◌≢◌, ◌++◌, Ok, Err, Some, true, false, IfOk, IfErr, OnOk, codes, option_map, string_bytes};
+ghost use Rattle.std.specs.Prelude.{◌≡◌, ◌≢◌, ◌++◌, Ok, Err, Some, true, false, IfOk, IfErr, codes, option_map, string_bytes};
 ghost use Rattle.std.specs.Str.{bytes_eq};
 ghost use Rattle.serde_json.specs.View.{view};
 ghost use Rattle.act_json.specs.Results.{result_map};
 ghost use Rattle.std.specs.Option.{ForSome};
 ghost use Rattle.act_model.specs.Name.{is_currency, is_name};
 ghost use Rattle.act_terms.specs.Fault.{read_map};
-ghost use Rattle.act_terms.specs.Names.{GrewBy, HasRoom, code_where, contract_id, currencies_of, currency_field, id_named, numbered, numbered_currencies, pair_name, with_currency, with_factor};
+ghost use Rattle.act_terms.specs.Names.{code_where, contract_id, currencies_of, currency_field, id_named, numbered, numbered_currencies, pair_name, with_currency, with_factor};
 
 use crate::fault::{TermCause, TermsFault, refused};
 use crate::fields::{needed, needed_where, optional};
@@ -51,11 +51,9 @@ pub(crate) fn code_where(
     contract: &Value,
     names: &mut Names,
 ) -> Result<Option<u32>, TermsFault>
-    requires room { HasRoom 1 0 names.old }
     ensures read { IfOk result (λ code. code_where wanted term.now names.old (view contract.now) ≡ Ok (code, names.new)) }
     ensures refused { IfErr result (λ fault. fault ≢ TermsFault.NoMemory
         → code_where wanted term.now names.old (view contract.now) ≡ Err fault) }
-    ensures grew { OnOk result (GrewBy 1 0 names.old names.new) }
 {
     match needed_where(wanted, term, word(alloc, contract, term))? {
         Some(code) => Ok(Some(names.intern_code(code.as_str())?)),
@@ -71,11 +69,9 @@ pub(crate) fn read_currencies(
     contract: &Value,
     names: &mut Names,
 ) -> Result<Currencies, TermsFault>
-    requires room { HasRoom 1 2 names.old }
     ensures read { IfOk result (λ money. currencies_of names.old (view contract.now) ≡ Ok (money, names.new)) }
     ensures refused { IfErr result (λ fault. fault ≢ TermsFault.NoMemory
         → currencies_of names.old (view contract.now) ≡ Err fault) }
-    ensures grew { OnOk result (GrewBy 1 2 names.old names.new) }
 {
     let currency = needed("currency", currency_field(alloc, contract, "currency"))?;
     let settlement = optional(
@@ -100,11 +96,9 @@ fn settled(
     settlement: &str,
     names: &mut Names,
 ) -> Result<Currencies, NoMemory>
-    requires room { HasRoom 1 2 names.old }
     requires currency { is_currency currency.now ≡ true }
     requires settlement { is_currency settlement.now ≡ true }
     ensures numbered { IfOk result (λ money. numbered_currencies currency.now (Some settlement.now) names.old ≡ (money, names.new)) }
-    ensures grew { OnOk result (GrewBy 1 2 names.old names.new) }
 {
     let first = names.intern_currency(currency)?;
     let second = names.intern_currency(settlement)?;
@@ -123,11 +117,9 @@ fn factor(
     settlement: &str,
     names: &mut Names,
 ) -> Result<Option<u32>, NoMemory>
-    requires room { HasRoom 1 0 names.old }
     requires currency { is_currency currency.now ≡ true }
     requires settlement { is_currency settlement.now ≡ true }
     ensures numbered { IfOk result (λ code. with_factor currency.now settlement.now names.old ≡ (code, names.new)) }
-    ensures grew { OnOk result (GrewBy 1 0 names.old names.new) }
 {
     if currency == settlement {
         return Ok(None);

@@ -8,7 +8,7 @@ use act_num::NoMemory;
 use std::marker::Model;
 
 /// Why a term is refused. The numbers are those of a portfolio's refusals.
-#[derive(Clone, Copy, Debug, PartialEq, Eq)]
+#[derive(Clone, Copy, PartialEq, Eq)]
 pub enum TermCause {
     /// It is given and no text, or the contract is no object. What `act_json` reads has texts for bare numbers.
     WrongShape = 11,

@@ -1,9 +1,8 @@
 //! The terms of loans.
-ghost use Rattle.std.specs.Prelude.{◌≡◌, ◌≢◌, Ok, Err, IfOk, IfErr, OnOk};
+ghost use Rattle.std.specs.Prelude.{◌≡◌, ◌≢◌, Ok, Err, IfOk, IfErr};
 ghost use Rattle.serde_json.specs.View.{view};
 ghost use Rattle.act_terms.specs.Loan.{loan_of, pam_of};
 ghost use Rattle.act_profile.specs.Built.{LoanLeadsOn};
-ghost use Rattle.act_terms.specs.Names.{GrewBy, HasRoom};
 
 use crate::fault::TermsFault;
 use crate::fee::read_fee;
@@ -24,12 +23,10 @@ pub(crate) fn read_pam(
     contract: &Value,
     names: &mut Names,
 ) -> Result<Pam, TermsFault>
-    requires room { HasRoom 2 0 names.old }
     ensures read { IfOk result (λ pam. pam_of names.old (view contract.now) ≡ Ok (pam, names.new)) }
     ensures refused { IfErr result (λ fault. fault ≢ TermsFault.NoMemory
         → pam_of names.old (view contract.now) ≡ Err fault) }
     ensures cycles { IfOk result (λ pam. LoanLeadsOn pam.loan) }
-    ensures grew { OnOk result (GrewBy 2 0 names.old names.new) }
 {
     let exchange = needed_day(contract, "initialExchangeDate")?;
     let maturity_date = needed(
@@ -51,12 +48,10 @@ fn read_loan(
     contract: &Value,
     names: &mut Names,
 ) -> Result<Loan, TermsFault>
-    requires room { HasRoom 2 0 names.old }
     ensures read { IfOk result (λ loan. loan_of exchange names.old (view contract.now) ≡ Ok (loan, names.new)) }
     ensures refused { IfErr result (λ fault. fault ≢ TermsFault.NoMemory
         → loan_of exchange names.old (view contract.now) ≡ Err fault) }
     ensures cycles { IfOk result (λ loan. LoanLeadsOn loan) }
-    ensures grew { OnOk result (GrewBy 2 0 names.old names.new) }
 {
     let notional_principal = needed(
         "notionalPrincipal",

@@ -1,9 +1,8 @@
 //! The terms of rate resets.
-ghost use Rattle.std.specs.Prelude.{◌≡◌, ◌≢◌, ◌||◌, Ok, Err, IfOk, IfErr, OnOk, is_some};
+ghost use Rattle.std.specs.Prelude.{◌≡◌, ◌≢◌, ◌||◌, Ok, Err, IfOk, IfErr, is_some};
 ghost use Rattle.serde_json.specs.View.{view};
 ghost use Rattle.act_profile.specs.Built.{LeadsOn};
 ghost use Rattle.act_terms.specs.Loan.{rate_limits_of, rate_reset_of};
-ghost use Rattle.act_terms.specs.Names.{GrewBy, HasRoom};
 
 use crate::currencies::code_where;
 use crate::fault::TermsFault;
@@ -30,12 +29,10 @@ pub(crate) fn read_rate_reset(
     contract: &Value,
     names: &mut Names,
 ) -> Result<RateReset, TermsFault>
-    requires room { HasRoom 1 0 names.old }
     ensures read { IfOk result (λ reset. rate_reset_of names.old (view contract.now) ≡ Ok (reset, names.new)) }
     ensures refused { IfErr result (λ fault. fault ≢ TermsFault.NoMemory
         → rate_reset_of names.old (view contract.now) ≡ Err fault) }
     ensures cycle { IfOk result (λ reset. LeadsOn reset.cycle_of_rate_reset) }
-    ensures grew { OnOk result (GrewBy 1 0 names.old names.new) }
 {
     let anchor = optional_day(contract, "cycleAnchorDateOfRateReset")?;
     let cycle = optional_cycle(contract, "cycleOfRateReset")?;

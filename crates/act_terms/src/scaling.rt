@@ -1,9 +1,8 @@
 //! The terms of a loan's scaling.
-ghost use Rattle.std.specs.Prelude.{◌≡◌, ◌≢◌, Ok, Err, IfOk, IfErr, OnOk};
+ghost use Rattle.std.specs.Prelude.{◌≡◌, ◌≢◌, Ok, Err, IfOk, IfErr};
 ghost use Rattle.serde_json.specs.View.{view};
 ghost use Rattle.act_profile.specs.Built.{LeadsOn};
 ghost use Rattle.act_terms.specs.Loan.{no_effect, scales, scaling_of};
-ghost use Rattle.act_terms.specs.Names.{GrewBy, HasRoom};
 
 use crate::choices::choice_in;
 use crate::currencies::code_where;
@@ -26,12 +25,10 @@ pub(crate) fn read_scaling(
     contract: &Value,
     names: &mut Names,
 ) -> Result<Scaling, TermsFault>
-    requires room { HasRoom 1 0 names.old }
     ensures read { IfOk result (λ scaling. scaling_of names.old (view contract.now) ≡ Ok (scaling, names.new)) }
     ensures refused { IfErr result (λ fault. fault ≢ TermsFault.NoMemory
         → scaling_of names.old (view contract.now) ≡ Err fault) }
     ensures cycle { IfOk result (λ scaling. LeadsOn scaling.cycle_of_scaling_index) }
-    ensures grew { OnOk result (GrewBy 1 0 names.old names.new) }
 {
     let given = optional("scalingEffect", choice_in(contract, "scalingEffect"))?;
     let effect = given.unwrap_or(NO_EFFECT);

@@ -1,8 +1,9 @@
-//! Which names of a contract's object are terms of its kind.
+//! Which names of a contract's object are terms of its type.
 ghost use Rattle.std.specs.Prelude.{◌≡◌, ◌∷◌, ◌++◌, [], IfOk, OnOk, map, string_bytes};
 ghost use Rattle.serde_json.specs.View.{view};
-ghost use Rattle.act_terms.specs.Used.{is_among, is_pam_term, unused_names};
+ghost use Rattle.act_terms.specs.Used.{common_terms, is_among, is_term_of, terms_named, unused_names};
 
+use act_model::ContractType;
 use act_num::NoMemory;
 use serde_json::Value;
 use std::alloc::Global;
@@ -61,18 +62,23 @@ const LOAN_TERMS: [&str; 32] = [
     "penaltyRate",
 ];
 
-/// The names of a contract's object that aren't terms of a PAM, in byte order, each once and whatever its value is, null
-/// and the empty text too. A value that is no object has none. NoMemory where memory runs out.
-#[tactic(auto, using(crate::proofs::PamTerms::unused_of), unfolding(crate::specs::Used::unused_names))]
-pub fn unused_names(alloc: Global, contract: &Value) -> Result<Vec<String>, NoMemory>
-    ensures { IfOk result (λ unused. map string_bytes unused.items ≡ unused_names (view contract.now)) }
+/// The names of a contract's object that aren't terms of that type, in byte order, each once and whatever its value is,
+/// null and the empty text too. Of a type that isn't read yet the terms are those that every contract has. A value that
+/// is no object has no names. NoMemory where memory runs out.
+#[tactic(auto, using(crate::proofs::TermNames::unused_of), unfolding(crate::specs::Used::unused_names))]
+pub fn unused_names(
+    alloc: Global,
+    contract_type: ContractType,
+    contract: &Value,
+) -> Result<Vec<String>, NoMemory>
+    ensures { IfOk result (λ unused. map string_bytes unused.items ≡ unused_names contract_type (view contract.now)) }
 {
     let mut unused = Vec::new(alloc);
     let Some(object) = contract.as_object() else {
         return Ok(unused);
     };
     for (name, _) in object {
-        if !is_pam_term(name.as_str()) {
+        if !is_term_of(contract_type, name.as_str()) {
             push_name(&mut unused, name.as_str())?;
         }
     }
@@ -87,11 +93,21 @@ fn push_name(names: &mut Vec<String>, name: &str) -> Result<(), NoMemory>
     Ok(names.push(name)?)
 }
 
-/// Whether a name is a term of a PAM.
-fn is_pam_term(name: &str) -> bool
-    ensures { result ≡ is_pam_term name.now }
+/// Whether a name is a term of that type.
+fn is_term_of(contract_type: ContractType, name: &str) -> bool
+    ensures { result ≡ is_term_of contract_type name.now }
 {
-    is_among(&COMMON_TERMS, name) || is_among(&LOAN_TERMS, name)
+    is_among(&COMMON_TERMS, name) || is_among(own_terms(contract_type), name)
+}
+
+/// The terms of a type beside those that every contract has.
+fn own_terms(contract_type: ContractType) -> &'static [&'static str]
+    ensures { common_terms ++ map (λ n. n.now) result.now ≡ terms_named contract_type }
+{
+    match contract_type {
+        ContractType::PAM => &LOAN_TERMS,
+        _ => &[],
+    }
 }
 
 /// Whether a name is one of some names.

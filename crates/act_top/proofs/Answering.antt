@@ -1,8 +1,9 @@
 -- The asks of a script, and what is left to be answered.
 use Rattle.std.proofs.Common.{◌≡◌, ℕ, ◌+◌, ◌≤◌, nat_lt, suc, Bool, true, false, if◌then◌else◌, cond, List, [], ◌∷◌, ◌++◌, length, map, Option, Some, None, refl, sym, ap, ◌∙◌, append-nil, subst, arith}
 use Rattle.std.specs.Prelude.{◌&&◌, ◌==◌, not}
-use Rattle.std.specs.List.{count_by, flat_map, list_all}
+use Rattle.std.specs.List.{count_by, flat_map, list_all, sum_by}
 use Rattle.std.proofs.lemmas.List.{length-map}
+use Rattle.std.proofs.lemmas.List.Folds.{flat_map-map}
 use Rattle.std.proofs.lemmas.List.Sums.{sum_by-cons}
 use Rattle.std.proofs.lemmas.Bool.{ltb-false}
 use Rattle.std.proofs.Math.Bool.{and_assoc, and-true}
@@ -16,7 +17,9 @@ use Rattle.act_model.specs.declared.observed.Obs.{Obs}
 use Rattle.act_io.specs.Put.{written_after}
 use Rattle.act_portfolio.specs.Reading.{Accepted}
 use Rattle.act_model.specs.Asks.{asks_of, caller_asks}
-use Rattle.act_print.specs.Printed.{Block, Response}
+use Rattle.act_model.specs.Answer.{Reply}
+use Rattle.act_print.specs.Printed.{printed_answer}
+use Rattle.act_profile.specs.Answers.{answer_to, answers_of}
 use Rattle.act_print.specs.Text.{answer_text, text_of}
 use Rattle.act_model.specs.declared.asks.Asking.{Asking}
 use Rattle.act_script.specs.Reading.{Script}
@@ -25,7 +28,7 @@ use Rattle.act_script.specs.Spending.{overweight_behind}
 use Rattle.act_script.specs.Weight.{Tariff, all_asks, ask_weight, script_asks}
 use Rattle.act_script.proofs.Weighing.{in_turn}
 use Rattle.act_model.proofs.AsksInTurn.{asks_from, asks_in_turn}
-use Rattle.act_top.specs.Output.{all_end, is_end, items_of, output_of, response_of, responses_of, tariff_of, too_much_asked}
+use Rattle.act_top.specs.Output.{ends_well, items_of, output_of, row_count, tariff_of, too_much_asked}
 use Rattle.act_top.specs.Ready.{opening_text}
 use Rattle.act_top.specs.Written.{IsPartAt}
 use Rattle.act_top.specs.declared.writing.Stop.{Stop}
@@ -148,30 +151,32 @@ few-asks portfolio lines light =
     omega (arith, few-from tariff 0 lines (omega arith) (sym (in_turn (all_asks tariff (lines ∷ []))) ∙ light))
 
 -- there is an answer for each
-pub answer-count : (portfolio : Accepted) (names : NameLists) (lines : List Line) → length (responses_of portfolio names (items_of lines)) ≡ count_by asks lines
+pub answer-count : (portfolio : Accepted) (names : NameLists) (lines : List Line) → length (answers_of portfolio.contracts names (items_of lines)) ≡ count_by asks lines
 answer-count portfolio names lines = length-map _ _ ∙ (ap length (one-caller lines) ∙ ask-count 1 0 lines)
 
 -- ---- what is left to be answered
 
+-- the text of answers
+abbrev pub answers_text : NameLists → List Reply → List ℕ
+answers_text names answers = flat_map (λ answer. answer_text names (printed_answer answer)) answers
+
 -- the answers to the asks of lines, from a number and a version on
-abbrev pub answers_from : Accepted → NameLists → List Obs → ℕ → ℕ → List Line → List Response
-answers_from portfolio names book number version lines = map (response_of portfolio names book) (asks_from 1 number version (items_of lines))
+abbrev pub answers_from : Accepted → NameLists → List Obs → ℕ → ℕ → List Line → List Reply
+answers_from portfolio names book number version lines = map (answer_to portfolio.contracts names book) (asks_from 1 number version (items_of lines))
 
-pub all-answers : (portfolio : Accepted) (names : NameLists) (lines : List Line) → responses_of portfolio names (items_of lines) ≡ answers_from portfolio names (book_of (items_of lines)) 1 0 lines
-all-answers portfolio names lines = ap (map (response_of portfolio names (book_of (items_of lines)))) (one-caller lines)
-
-pub responses-are : (portfolio : Accepted) (names : NameLists) (book : List Obs) (lines : List Line) → book ≡ book_of (items_of lines) → responses_of portfolio names (items_of lines) ≡ answers_from portfolio names book 1 0 lines
-responses-are portfolio names book lines is = all-answers portfolio names lines ∙ ap (λ (b : List Obs). answers_from portfolio names b 1 0 lines) (sym is)
+pub answers-are : (portfolio : Accepted) (names : NameLists) (book : List Obs) (lines : List Line) → book ≡ book_of (items_of lines) → answers_of portfolio.contracts names (items_of lines) ≡ answers_from portfolio names book 1 0 lines
+answers-are portfolio names book lines is =
+    ap (map (answer_to portfolio.contracts names (book_of (items_of lines)))) (one-caller lines) ∙ ap (λ (b : List Obs). answers_from portfolio names b 1 0 lines) (sym is)
 
 -- of the answers of a script those of these lines are still to be written; with those before, all end in `end` or don't
 pub record Answering (portfolio : Accepted) (names : NameLists) (book : List Obs) (lines left : List Line) (number version : ℕ) (ended : Bool) (before now : Option (List ℕ)) : Type 0 where
-  pub text : Left (flat_map (answer_text names) (answers_from portfolio names book 1 0 lines)) (flat_map (answer_text names) (answers_from portfolio names book number version left)) before now
-  pub ends : (ended && all_end (answers_from portfolio names book number version left)) ≡ all_end (answers_from portfolio names book 1 0 lines)
+  pub text : Left (answers_text names (answers_from portfolio names book 1 0 lines)) (answers_text names (answers_from portfolio names book number version left)) before now
+  pub ends : (ended && list_all ends_well (answers_from portfolio names book number version left)) ≡ list_all ends_well (answers_from portfolio names book 1 0 lines)
   pub numbers : number + count_by asks left ≤ 4_194_305
   pub versions : version + count_by appends left ≡ length book
 
 module _ (portfolio : Accepted) (names : NameLists) (book : List Obs) (lines : List Line) (before : Option (List ℕ)) where
-  abbrev answers : ℕ → ℕ → List Line → List Response
+  abbrev answers : ℕ → ℕ → List Line → List Reply
   answers number version left = answers_from portfolio names book number version left
 
   -- nothing is written yet
@@ -187,36 +192,36 @@ module _ (portfolio : Accepted) (names : NameLists) (book : List Obs) (lines : L
     -- behind a line that appends
     pub answering-append : (entry : Obs) → line.step ≡ Append entry → Answering portfolio names book lines left number (version + 1) ended before now
     answering-append entry is = record {
-      text = subst (λ (rest : List Asking). Left (flat_map (answer_text names) (answers 1 0 lines)) (flat_map (answer_text names) (map (response_of portfolio names book) rest)) before now)
+      text = subst (λ (rest : List Asking). Left (answers_text names (answers 1 0 lines)) (answers_text names (map (answer_to portfolio.contracts names book) rest)) before now)
           (asks-append number version line left entry is) answering.text;
-      ends = ap (λ (rest : List Asking). ended && all_end (map (response_of portfolio names book) rest)) (sym (asks-append number version line left entry is)) ∙ answering.ends;
+      ends = ap (λ (rest : List Asking). ended && list_all ends_well (map (answer_to portfolio.contracts names book) rest)) (sym (asks-append number version line left entry is)) ∙ answering.ends;
       numbers = omega (arith, answering.numbers, asks-at-append line left entry is);
       versions = omega (arith, answering.versions, appends-at-append line left entry is);
     }
 
     -- the answer to an ask
-    abbrev answer : Asked → Response
-    answer asked = response_of portfolio names book (record { caller = 1; number = number; version = version; asked = asked })
+    abbrev answer : Asked → Reply
+    answer asked = answer_to portfolio.contracts names book (record { caller = 1; number = number; version = version; asked = asked })
 
     pub answers-next : (asked : Asked) → line.step ≡ Ask asked → answers number version (line ∷ left) ≡ answer asked ∷ answers (number + 1) version left
-    answers-next asked is = ap (map (response_of portfolio names book)) (asks-ask number version line left asked is)
+    answers-next asked is = ap (map (answer_to portfolio.contracts names book)) (asks-ask number version line left asked is)
 
     -- behind an ask whose answer was written
-    pub answering-ask : (asked : Asked) (ends : Bool) (next : Option (List ℕ)) → line.step ≡ Ask asked → next ≡ written_after now (answer_text names (answer asked)) →
-        ends ≡ list_all (λ (b : Block). is_end b.close) (answer asked).blocks → Answering portfolio names book lines left (number + 1) version (ended && ends) before next
+    pub answering-ask : (asked : Asked) (ends : Bool) (next : Option (List ℕ)) → line.step ≡ Ask asked → next ≡ written_after now (answer_text names (printed_answer (answer asked))) →
+        ends ≡ ends_well (answer asked) → Answering portfolio names book lines left (number + 1) version (ended && ends) before next
     answering-ask asked ends next is put ended_so = record {
-      text = left-next _ _ _ _ _ _ _ answering.text (ap (flat_map (answer_text names)) (answers-next asked is)) put;
-      ends = and_assoc ended ends (all_end (answers (number + 1) version left))
-          ∙ (ap (λ (b : Bool). ended && (b && all_end (answers (number + 1) version left))) ended_so
-          ∙ (ap (λ (rest : List Response). ended && all_end rest) (sym (answers-next asked is)) ∙ answering.ends));
+      text = left-next _ _ _ _ _ _ _ answering.text (ap (answers_text names) (answers-next asked is)) put;
+      ends = and_assoc ended ends (list_all ends_well (answers (number + 1) version left))
+          ∙ (ap (λ (b : Bool). ended && (b && list_all ends_well (answers (number + 1) version left))) ended_so
+          ∙ (ap (λ (rest : List Reply). ended && list_all ends_well rest) (sym (answers-next asked is)) ∙ answering.ends));
       numbers = omega (arith, answering.numbers, asks-at-ask line left asked is);
       versions = omega (arith, answering.versions, appends-at-ask line left asked is);
     }
 
     -- an answer was written in part
-    pub answering-part : (stop : Stop) (asked : Asked) (next : Option (List ℕ)) → line.step ≡ Ask asked → IsPartAt stop (answer_text names (answer asked)) now next →
-        IsPartAt stop (flat_map (answer_text names) (answers 1 0 lines)) before next
-    answering-part stop asked next is part = left-part stop _ _ _ _ _ _ _ answering.text (ap (flat_map (answer_text names)) (answers-next asked is)) part
+    pub answering-part : (stop : Stop) (asked : Asked) (next : Option (List ℕ)) → line.step ≡ Ask asked → IsPartAt stop (answer_text names (printed_answer (answer asked))) now next →
+        IsPartAt stop (answers_text names (answers 1 0 lines)) before next
+    answering-part stop asked next is part = left-part stop _ _ _ _ _ _ _ answering.text (ap (answers_text names) (answers-next asked is)) part
 
     -- the version that comes next is one of the book
     pub version-fits : (entry : Obs) → line.step ≡ Append entry → version + 1 ≤ length book
@@ -224,13 +229,32 @@ module _ (portfolio : Accepted) (names : NameLists) (book : List Obs) (lines : L
 
   -- all is written
   pub answering-none : (number version : ℕ) (ended : Bool) (now : Option (List ℕ)) → Answering portfolio names book lines [] number version ended before now →
-      (now ≡ written_after before (flat_map (answer_text names) (answers 1 0 lines))) × (ended ≡ all_end (answers 1 0 lines))
+      (now ≡ written_after before (answers_text names (answers 1 0 lines))) × (ended ≡ list_all ends_well (answers 1 0 lines))
   answering-none number version ended now answering = (left-none _ _ before now answering.text refl, sym (and-true ended) ∙ answering.ends)
+
+-- ---- ticks
+
+-- a line that appends leaves the rows to those behind it, at the next version
+pub rows-append : (portfolio : Accepted) (names : NameLists) (book : List Obs) (number version : ℕ) (line : Line) (left : List Line) (entry : Obs) → line.step ≡ Append entry
+    → sum_by row_count (answers_from portfolio names book number version (line ∷ left)) ≡ sum_by row_count (answers_from portfolio names book number (version + 1) left)
+rows-append portfolio names book number version line left entry is =
+    ap (λ (rest : List Asking). sum_by row_count (map (answer_to portfolio.contracts names book) rest)) (asks-append number version line left entry is)
+
+-- an ask has the rows of its answer
+pub rows-ask : (portfolio : Accepted) (names : NameLists) (book : List Obs) (number version : ℕ) (line : Line) (left : List Line) (asked : Asked) → line.step ≡ Ask asked
+    → sum_by row_count (answers_from portfolio names book number version (line ∷ left))
+    ≡ row_count (answer_to portfolio.contracts names book (record { caller = 1; number = number; version = version; asked = asked })) + sum_by row_count (answers_from portfolio names book (number + 1) version left)
+rows-ask portfolio names book number version line left asked is =
+    ap (λ (rest : List Asking). sum_by row_count (map (answer_to portfolio.contracts names book) rest)) (asks-ask number version line left asked is)
+    ∙ sum_by-cons row_count (answer_to portfolio.contracts names book (record { caller = 1; number = number; version = version; asked = asked })) (answers_from portfolio names book (number + 1) version left)
 
 -- ---- the whole text
 
 -- the journal and the head of the answers, and then the answers
 pub text-parts : (portfolio : Accepted) (script : Script) →
-    output_of portfolio script.names (items_of script.lines) ≡ opening_text script ++ flat_map (answer_text script.names) (responses_of portfolio script.names (items_of script.lines))
+    output_of portfolio script.names (items_of script.lines) ≡ opening_text script ++ answers_text script.names (answers_of portfolio.contracts script.names (items_of script.lines))
 unfolding text_of
-text-parts portfolio script = rw (answer-count portfolio script.names script.lines) refl
+text-parts portfolio script =
+    let answers = answers_of portfolio.contracts script.names (items_of script.lines) in
+    let count = length-map answers printed_answer ∙ answer-count portfolio script.names script.lines in
+    rw (count, flat_map-map (answer_text script.names) printed_answer answers) refl

@@ -5,11 +5,10 @@ use Rattle.std.proofs.Math.Seq.{take-length}
 use Rattle.act_portfolio.specs.Reading.{Accepted}
 use Rattle.act_script.specs.Reading.{Script}
 use Rattle.act_top.specs.Asked.{Asks, AsksFirst}
-use Rattle.act_top.specs.Command.{CommandWords, files_of}
+use Rattle.act_top.specs.Command.{CommandWords, Check, Eval, files_of}
 use Rattle.act_top.specs.Halts.{AsksFile, AsksFiles, AsksScript, RefusesOnly, OnUnread, Reads, refusal_of}
 use Rattle.act_top.specs.Output.{Outcome, check_text, eval_outcome, portfolio_read, script_outcome, script_read, script_told, too_much_asked, verb_outcome}
 use Rattle.act_top.specs.Ready.{evaluation_outcome, Evaluation}
-use Rattle.act_top.specs.declared.command.Verb.TheVariants.{Check, Eval}
 use Rattle.act_top.specs.declared.halt.Halt.{Halt}
 use Rattle.act_top.specs.declared.halt.Halt.TheVariants as halt
 use Rattle.act_top.specs.declared.top.Status.TheVariants.{Done}
@@ -146,7 +145,7 @@ unread-refuses told portfolio stopped is = turned told portfolio (refusal_of sto
 
 -- what `check` writes of a portfolio that was read
 pub checks : (content : List ℕ → Option (List ℕ)) (command : CommandWords) (told : Option (List ℕ)) (portfolio : Accepted) → command.verb ≡ Check → IfSome told (λ bytes. portfolio_read command.portfolio bytes ≡ Ok portfolio)
-    → IfSome (option_and_then (λ bytes. verb_outcome content command.verb command.script (portfolio_read command.portfolio bytes)) told) (λ wanted. wanted ≡ record { status = Done; text = check_text portfolio })
+    → IfSome (option_and_then (λ bytes. verb_outcome content command.verb command.script (portfolio_read command.portfolio bytes)) told) (λ wanted. wanted ≡ record { status = Done; text = check_text portfolio; rows = 0 })
 checks content command None portfolio verb read = tt
 checks content command (Some bytes) portfolio verb read = rw (verb, read) refl
 

@@ -1,5 +1,5 @@
 -- The status that a command ends with.
-use Rattle.std.proofs.Common.{◌≡◌, ℕ, List, [], ◌∷◌, Option, None, Some, Result, Ok, Err, IfSome, IfOk, IsSomeAnd, inl, inr, ◌⊎◌, option_to_list, if◌then◌else◌, true, false, Bool, refl, sym, subst, ◌∙◌}
+use Rattle.std.proofs.Common.{◌≡◌, ℕ, List, [], ◌∷◌, Option, None, Some, Result, Ok, Err, IfSome, IfOk, IsSomeAnd, inl, inr, ◌⊎◌, option_to_list, if◌then◌else◌, true, false, Bool, ◌+◌, ap, refl, sym, subst, ◌∙◌}
 use Rattle.std.specs.Prelude.{⊤}
 use Rattle.std.proofs.lemmas.Option.{IfSome_then}
 use Rattle.act_io.specs.Put.{written_after}
@@ -7,12 +7,12 @@ use Rattle.act_top.specs.Asked.{Asks, AsksBy, AsksFirst, AsksFor, NamesFile}
 use Rattle.act_top.specs.Command.{CommandWords, files_of, script_file}
 use Rattle.act_top.specs.Halts.{AsksFiles, halt_outcome, refusal_of}
 use Rattle.act_top.specs.Output.{EndsAs, Outcome, long_outcome, outcome_of, read_outcome, status_of}
-use Rattle.act_top.specs.Tasks.{task_outcome}
+use Rattle.act_top.specs.Jobs.{job_outcome}
 use Rattle.act_top.specs.Written.{Writes}
 use Rattle.act_top.specs.declared.halt.Halt.{Halt}
 use Rattle.act_top.specs.declared.halt.Halt.TheVariants as halt
-use Rattle.act_top.specs.declared.task.Task.{Task}
-use Rattle.act_top.specs.declared.task.Task.TheVariants as task
+use Rattle.act_top.specs.declared.job.Job.{Job}
+use Rattle.act_top.specs.declared.job.Job.TheVariants as job
 use Rattle.act_top.specs.declared.top.Status.{Status}
 use Rattle.act_top.specs.declared.top.Status.TheVariants.{Done, Words, ReadFault, TooLong, PortfolioRefused, ScriptRefused, WriteFault, Unfinished, NoMemory}
 use Rattle.act_top.specs.declared.writing.Stop.{Stop}
@@ -39,11 +39,11 @@ ends wanted (Ok status) before after is put = as-wanted wanted status before aft
 ends wanted (Err SinkStop) before after is put = tt
 ends wanted (Err Memory) before after is put = tt
 
--- a task that was written
-pub ends-task : (told : Option Outcome) (task : Task) (written : Result Status Stop) (before after : Option (List ℕ)) → IfSome told (λ wanted. wanted ≡ task_outcome task)
-    → IfOk written (λ status. status ≡ (task_outcome task).status) → Writes written (task_outcome task).text before after → IfSome told (λ wanted. EndsAs wanted (status_of written) before after)
-ends-task told task written before after is status text =
-    IfSome_then told is (λ wanted same. subst (λ (o : Outcome). EndsAs o (status_of written) before after) (sym same) (ends (task_outcome task) written before after status text))
+-- a job that was written
+pub ends-job : (told : Option Outcome) (job : Job) (written : Result Status Stop) (before after : Option (List ℕ)) → IfSome told (λ wanted. wanted ≡ job_outcome job)
+    → IfOk written (λ status. status ≡ (job_outcome job).status) → Writes written (job_outcome job).text before after → IfSome told (λ wanted. EndsAs wanted (status_of written) before after)
+ends-job told job written before after is status text =
+    IfSome_then told is (λ wanted same. subst (λ (o : Outcome). EndsAs o (status_of written) before after) (sym same) (ends (job_outcome job) written before after status text))
 
 -- a halt whose line was written
 pub ends-halt : (told : Option Outcome) (stopped : Halt) (written : Result Status Stop) (before after : Option (List ℕ)) → IfSome (refusal_of stopped) (λ outcome. IfSome told (λ wanted. wanted ≡ outcome))
@@ -78,6 +78,17 @@ ends-halt told stopped written before after is status text = by_halt stopped is 
     by_halt (halt.ScriptRefused line) is status text = by_same _ is status text
     by_halt halt.Memory is status text = always (λ wanted. lost wanted written status)
 
+-- ---- ticks
+
+-- a job that was written had a tick for each of its rows
+pub ticks-job : (told : Option Outcome) (job : Job) (written : Result Status Stop) (before after : ℕ) → IfSome told (λ wanted. wanted ≡ job_outcome job) → IfOk written (λ _. after ≡ before + (job_outcome job).rows)
+    → (status_of written ≡ Done) ⊎ (status_of written ≡ Unfinished) → IfSome told (λ wanted. after ≡ before + wanted.rows)
+ticks-job told job (Ok status) before after is ticked done = IfSome_then told is (λ wanted same. ticked ∙ ap (λ (o : Outcome). before + o.rows) (sym same))
+ticks-job told job (Err SinkStop) before after is ticked (inl done) = absurd (cc)
+ticks-job told job (Err SinkStop) before after is ticked (inr done) = absurd (cc)
+ticks-job told job (Err Memory) before after is ticked (inl done) = absurd (cc)
+ticks-job told job (Err Memory) before after is ticked (inr done) = absurd (cc)
+
 -- ---- where nothing failed
 
 -- where neither reading nor writing failed, the wanted status with its text, unless memory ran out
@@ -98,47 +109,47 @@ ends-whole told status before after Unread Unwritten ended unread unwritten read
 
 -- ---- the status
 
--- the statuses of a task that was written
-abbrev pub IsOfTask : Status → Type 0
-IsOfTask Done = ⊤
-IsOfTask Words = ⊥
-IsOfTask ReadFault = ⊥
-IsOfTask TooLong = ⊥
-IsOfTask PortfolioRefused = ⊥
-IsOfTask ScriptRefused = ⊥
-IsOfTask WriteFault = ⊥
-IsOfTask Unfinished = ⊤
-IsOfTask NoMemory = ⊥
+-- the statuses of a job that was written
+abbrev pub IsOfJob : Status → Type 0
+IsOfJob Done = ⊤
+IsOfJob Words = ⊥
+IsOfJob ReadFault = ⊥
+IsOfJob TooLong = ⊥
+IsOfJob PortfolioRefused = ⊥
+IsOfJob ScriptRefused = ⊥
+IsOfJob WriteFault = ⊥
+IsOfJob Unfinished = ⊤
+IsOfJob NoMemory = ⊥
 
-of-ended : (ended : Bool) → IsOfTask (if ended then Done else Unfinished)
+of-ended : (ended : Bool) → IsOfJob (if ended then Done else Unfinished)
 of-ended true = tt
 of-ended false = tt
 
-pub of-task : (t : Task) → IsOfTask (task_outcome t).status
-of-task (task.Check portfolio) = tt
-of-task (task.Evaluate evaluation) = of-ended _
+pub of-job : (t : Job) → IsOfJob (job_outcome t).status
+of-job (job.Check portfolio) = tt
+of-job (job.Evaluate evaluation) = of-ended _
 
--- a task that was written isn't the usage line
-pub not-words-task : (t : Task) (written : Result Status Stop) → IfOk written (λ status. status ≡ (task_outcome t).status) → status_of written ≡ Words → ⊥
-not-words-task t (Ok status) is same = subst IsOfTask (sym is ∙ same) (of-task t)
-not-words-task t (Err SinkStop) is same = cc
-not-words-task t (Err Memory) is same = cc
+-- a job that was written isn't the usage line
+pub not-words-job : (t : Job) (written : Result Status Stop) → IfOk written (λ status. status ≡ (job_outcome t).status) → status_of written ≡ Words → ⊥
+not-words-job t (Ok status) is same = subst IsOfJob (sym is ∙ same) (of-job t)
+not-words-job t (Err SinkStop) is same = cc
+not-words-job t (Err Memory) is same = cc
 
--- a task that was written leaves no file unread
-pub not-unread-task : (t : Task) (written : Result Status Stop) → IfOk written (λ status. status ≡ (task_outcome t).status) → status_of written ≡ ReadFault → ⊥
-not-unread-task t (Ok status) is same = subst IsOfTask (sym is ∙ same) (of-task t)
-not-unread-task t (Err SinkStop) is same = cc
-not-unread-task t (Err Memory) is same = cc
+-- a job that was written leaves no file unread
+pub not-unread-job : (t : Job) (written : Result Status Stop) → IfOk written (λ status. status ≡ (job_outcome t).status) → status_of written ≡ ReadFault → ⊥
+not-unread-job t (Ok status) is same = subst IsOfJob (sym is ∙ same) (of-job t)
+not-unread-job t (Err SinkStop) is same = cc
+not-unread-job t (Err Memory) is same = cc
 
--- where writing a task failed, the sink failed
-pub write-failed-task : (t : Task) (written : Result Status Stop) → IfOk written (λ status. status ≡ (task_outcome t).status) → status_of written ≡ WriteFault → written ≡ Err SinkStop
-write-failed-task t (Ok status) is same = absurd (subst IsOfTask (sym is ∙ same) (of-task t))
-write-failed-task t (Err SinkStop) is same = refl
-write-failed-task t (Err Memory) is same = cc
+-- where writing a job failed, the sink failed
+pub write-failed-job : (t : Job) (written : Result Status Stop) → IfOk written (λ status. status ≡ (job_outcome t).status) → status_of written ≡ WriteFault → written ≡ Err SinkStop
+write-failed-job t (Ok status) is same = absurd (subst IsOfJob (sym is ∙ same) (of-job t))
+write-failed-job t (Err SinkStop) is same = refl
+write-failed-job t (Err Memory) is same = cc
 
 -- ---- what was asked for
 
-of-files : (command : CommandWords) (IsLine : List ℕ → Type 0) (status : Status) (before after : Option (List (List ℕ))) → IsOfTask status → Asks (files_of command) before after → AsksBy command status IsLine before after
+of-files : (command : CommandWords) (IsLine : List ℕ → Type 0) (status : Status) (before after : Option (List (List ℕ))) → IsOfJob status → Asks (files_of command) before after → AsksBy command status IsLine before after
 of-files command IsLine Done before after of asked = asked
 of-files command IsLine Words before after of asked = absurd of
 of-files command IsLine ReadFault before after of asked = absurd of
@@ -149,12 +160,12 @@ of-files command IsLine WriteFault before after of asked = absurd of
 of-files command IsLine Unfinished before after of asked = asked
 of-files command IsLine NoMemory before after of asked = absurd of
 
--- where a task was written, or in part, all its files
-pub asked-task : (command : CommandWords) (IsLine : List ℕ → Type 0) (t : Task) (written : Result Status Stop) (before after : Option (List (List ℕ))) → Asks (files_of command) before after
-    → IfOk written (λ status. status ≡ (task_outcome t).status) → AsksBy command (status_of written) IsLine before after
-asked-task command IsLine t (Ok status) before after asked is = of-files command IsLine status before after (subst IsOfTask (sym is) (of-task t)) asked
-asked-task command IsLine t (Err SinkStop) before after asked is = inr asked
-asked-task command IsLine t (Err Memory) before after asked is = first-all command before after asked
+-- where a job was written, or in part, all its files
+pub asked-job : (command : CommandWords) (IsLine : List ℕ → Type 0) (t : Job) (written : Result Status Stop) (before after : Option (List (List ℕ))) → Asks (files_of command) before after
+    → IfOk written (λ status. status ≡ (job_outcome t).status) → AsksBy command (status_of written) IsLine before after
+asked-job command IsLine t (Ok status) before after asked is = of-files command IsLine status before after (subst IsOfJob (sym is) (of-job t)) asked
+asked-job command IsLine t (Err SinkStop) before after asked is = inr asked
+asked-job command IsLine t (Err Memory) before after asked is = first-all command before after asked
 
 some-then : (script : Option (List ℕ)) (Q R : List ℕ → Type 0) → ((name : List ℕ) → Q name → R name) → IsSomeAnd script Q → IsSomeAnd script R
 some-then None Q R step is = absurd is
@@ -202,13 +213,13 @@ asked-halt A command halt.Memory (Err Memory) before after earlier later asked i
 
 -- ---- a command
 
--- the outcome of a command whose task was written
-pub command-task : (content : List ℕ → Option (List ℕ)) (command : CommandWords) (given : Option CommandWords) (t : Task) (written : Result Status Stop) (status : Status) (before after : Option (List ℕ)) → Some command ≡ given → status ≡ status_of written
-    → IfSome (outcome_of content (Some command)) (λ wanted. wanted ≡ task_outcome t) → IfOk written (λ s. s ≡ (task_outcome t).status) → Writes written (task_outcome t).text before after
+-- the outcome of a command whose job was written
+pub command-job : (content : List ℕ → Option (List ℕ)) (command : CommandWords) (given : Option CommandWords) (t : Job) (written : Result Status Stop) (status : Status) (before after : Option (List ℕ)) → Some command ≡ given → status ≡ status_of written
+    → IfSome (outcome_of content (Some command)) (λ wanted. wanted ≡ job_outcome t) → IfOk written (λ s. s ≡ (job_outcome t).status) → Writes written (job_outcome t).text before after
     → IfSome (outcome_of content given) (λ wanted. EndsAs wanted status before after)
-command-task content command given t written status before after named same is done text =
+command-job content command given t written status before after named same is done text =
     subst (λ (g : Option CommandWords). IfSome (outcome_of content g) (λ wanted. EndsAs wanted status before after)) named
-    (subst (λ (s : Status). IfSome (outcome_of content (Some command)) (λ wanted. EndsAs wanted s before after)) (sym same) (ends-task (outcome_of content (Some command)) t written before after is done text))
+    (subst (λ (s : Status). IfSome (outcome_of content (Some command)) (λ wanted. EndsAs wanted s before after)) (sym same) (ends-job (outcome_of content (Some command)) t written before after is done text))
 
 -- the outcome of a command that stopped
 pub command-halt : (content : List ℕ → Option (List ℕ)) (command : CommandWords) (given : Option CommandWords) (h : Halt) (written : Result Status Stop) (status : Status) (before after : Option (List ℕ)) → Some command ≡ given → status ≡ status_of written
@@ -218,12 +229,12 @@ command-halt content command given h written status before after named same is d
     subst (λ (g : Option CommandWords). IfSome (outcome_of content g) (λ wanted. EndsAs wanted status before after)) named
     (subst (λ (s : Status). IfSome (outcome_of content (Some command)) (λ wanted. EndsAs wanted s before after)) (sym same) (ends-halt (outcome_of content (Some command)) h written before after is done text))
 
--- what a command asked for whose task was written
-pub command-asked : (command : CommandWords) (given : Option CommandWords) (t : Task) (written : Result Status Stop) (status : Status) (before after : Option (List (List ℕ))) (earlier later : Option (List ℕ)) → Some command ≡ given → status ≡ status_of written
-    → Asks (files_of command) before after → IfOk written (λ s. s ≡ (task_outcome t).status) → AsksFor given status before after earlier later
+-- what a command asked for whose job was written
+pub command-asked : (command : CommandWords) (given : Option CommandWords) (t : Job) (written : Result Status Stop) (status : Status) (before after : Option (List (List ℕ))) (earlier later : Option (List ℕ)) → Some command ≡ given → status ≡ status_of written
+    → Asks (files_of command) before after → IfOk written (λ s. s ≡ (job_outcome t).status) → AsksFor given status before after earlier later
 command-asked command given t written status before after earlier later named same asked done =
     subst (λ (g : Option CommandWords). AsksFor g status before after earlier later) named
-    (subst (λ (s : Status). AsksBy command s (λ line. later ≡ written_after earlier line) before after) (sym same) (asked-task command (λ line. later ≡ written_after earlier line) t written before after asked done))
+    (subst (λ (s : Status). AsksBy command s (λ line. later ≡ written_after earlier line) before after) (sym same) (asked-job command (λ line. later ≡ written_after earlier line) t written before after asked done))
 
 -- what a command asked for that stopped
 pub command-stopped : (A : Type 0) (command : CommandWords) (given : Option CommandWords) (h : Halt) (written : Result Status Stop) (status : Status) (before after : Option (List (List ℕ))) (earlier later : Option (List ℕ)) → Some command ≡ given → status ≡ status_of written

@@ -5,16 +5,16 @@ use Rattle.std.proofs.lemmas.Option.{IfSome_then}
 use Rattle.act_top.specs.Command.{CommandWords}
 use Rattle.act_top.specs.Halts.{AsksFiles, OnUnread, halt_outcome, refusal_of}
 use Rattle.act_top.specs.Output.{Outcome, outcome_of, read_outcome, status_of}
-use Rattle.act_top.specs.Tasks.{task_outcome}
+use Rattle.act_top.specs.Jobs.{job_outcome}
 use Rattle.act_top.specs.Written.{IsPart, IsPartAt, Writes, WritesPart}
 use Rattle.act_top.specs.declared.halt.Halt.{Halt}
 use Rattle.act_top.specs.declared.halt.Halt.TheVariants as halt
-use Rattle.act_top.specs.declared.task.Task.{Task}
+use Rattle.act_top.specs.declared.job.Job.{Job}
 use Rattle.act_top.specs.declared.top.Status.{Status}
 use Rattle.act_top.specs.declared.top.Status.TheVariants.{ReadFault, TooLong, PortfolioRefused, ScriptRefused, WriteFault, NoMemory}
 use Rattle.act_top.specs.declared.writing.Stop.{Stop}
 use Rattle.act_top.specs.declared.writing.Stop.TheVariants.{Sink as SinkStop, Memory}
-use Rattle.act_top.proofs.Outcomes.{IsOfTask, names-line, of-task}
+use Rattle.act_top.proofs.Outcomes.{IsOfJob, names-line, of-job}
 
 -- ---- the status of a stop
 
@@ -23,8 +23,8 @@ apart : (status : Status) → (status ≡ WriteFault → ⊥) → (status ≡ No
 apart status not_failed not_lost SinkStop same = not_failed same
 apart status not_failed not_lost Memory same = not_lost same
 
-apart-task : (t : Task) (stop : Stop) → (task_outcome t).status ≡ status_of (Err stop) → ⊥
-apart-task t = apart (task_outcome t).status (λ same. subst IsOfTask same (of-task t)) (λ same. subst IsOfTask same (of-task t))
+apart-job : (t : Job) (stop : Stop) → (job_outcome t).status ≡ status_of (Err stop) → ⊥
+apart-job t = apart (job_outcome t).status (λ same. subst IsOfJob same (of-job t)) (λ same. subst IsOfJob same (of-job t))
 
 -- two stops have two statuses
 same-stop : (s stop : Stop) → status_of (Err s) ≡ status_of (Err stop) → s ≡ stop
@@ -89,13 +89,13 @@ module _ (stop : Stop) (before after : Option (List ℕ)) (asked asks : Option (
 
   -- ---- a command
 
-  -- what a command wrote whose task was written in part
-  pub command-part-task : (content : List ℕ → Option (List ℕ)) (command : CommandWords) (given : Option CommandWords) (t : Task) (written : Result Status Stop) (status : Status) → Some command ≡ given → status ≡ status_of written
-      → IfSome (outcome_of content (Some command)) (λ wanted. wanted ≡ task_outcome t) → IfOk written (λ s. s ≡ (task_outcome t).status) → Writes written (task_outcome t).text before after → status ≡ status_of (Err stop)
+  -- what a command wrote whose job was written in part
+  pub command-part-job : (content : List ℕ → Option (List ℕ)) (command : CommandWords) (given : Option CommandWords) (t : Job) (written : Result Status Stop) (status : Status) → Some command ≡ given → status ≡ status_of written
+      → IfSome (outcome_of content (Some command)) (λ wanted. wanted ≡ job_outcome t) → IfOk written (λ s. s ≡ (job_outcome t).status) → Writes written (job_outcome t).text before after → status ≡ status_of (Err stop)
       → IfSome (outcome_of content given) (WritesAt given)
-  command-part-task content command given t written status named same is done text stopped =
+  command-part-job content command given t written status named same is done text stopped =
       subst (λ (g : Option CommandWords). IfSome (outcome_of content g) (WritesAt g)) named
-      (part-wanted (outcome_of content (Some command)) (task_outcome t) written (Some command) (apart-task t) is done text (sym same ∙ stopped))
+      (part-wanted (outcome_of content (Some command)) (job_outcome t) written (Some command) (apart-job t) is done text (sym same ∙ stopped))
 
   -- what a command wrote that stopped
   pub command-part-halt : (A : Type 0) (content : List ℕ → Option (List ℕ)) (command : CommandWords) (given : Option CommandWords) (h : Halt) (written : Result Status Stop) (status : Status) → Some command ≡ given → status ≡ status_of written

@@ -1,20 +1,20 @@
 -- What the status of a command that stopped says.
-use Rattle.std.proofs.Common.{◌≡◌, ℕ, List, Option, None, Some, Result, Ok, Err, IfOk, IfSome, IsSomeAnd, inl, inr, ◌⊎◌, refl, sym, subst, ◌∙◌}
+use Rattle.std.proofs.Common.{◌≡◌, ◌≢◌, ap, ℕ, List, Option, None, Some, Result, Ok, Err, IfOk, IfSome, IsSomeAnd, inl, inr, ◌⊎◌, refl, sym, subst, ◌∙◌}
+use Rattle.act_io.specs.Faults.{Rose}
 use Rattle.act_io.specs.Put.{written_after}
 use Rattle.act_top.specs.Asked.{AsksBy, NamesFile}
-use Rattle.act_top.specs.Command.{CommandWords, script_file}
-use Rattle.act_top.specs.Halts.{AsksFiles, OnUnread, halt_outcome}
+use Rattle.act_top.specs.Command.{CommandWords, Verb, Eval, Check, script_file}
+use Rattle.act_top.specs.Halts.{AsksFiles, OnUnread, halt_outcome, read_faults}
 use Rattle.act_top.specs.Output.{read_outcome, status_of}
-use Rattle.act_top.specs.Written.{Writes}
-use Rattle.act_top.specs.declared.command.Verb.{Verb}
-use Rattle.act_top.specs.declared.command.Verb.TheVariants.{Eval, Check}
+use Rattle.act_top.specs.Written.{Writes, faults_after}
 use Rattle.act_top.specs.declared.halt.Halt.{Halt}
 use Rattle.act_top.specs.declared.halt.Halt.TheVariants as halt
 use Rattle.act_top.specs.declared.top.Status.{Status}
-use Rattle.act_top.specs.declared.top.Status.TheVariants.{Words, ReadFault, WriteFault}
+use Rattle.act_top.specs.declared.top.Status.TheVariants.{Done, Unfinished, Words, ReadFault, WriteFault, NoMemory}
 use Rattle.act_top.specs.declared.writing.Stop.{Stop}
 use Rattle.act_top.specs.declared.writing.Stop.TheVariants.{Sink as SinkStop, Memory}
 use Rattle.act_top.proofs.Outcomes.{asked-halt}
+use Rattle.act_top.proofs.Texts.{rose-next}
 
 -- ---- the command
 
@@ -71,6 +71,57 @@ pub write-failed-halt : (h : Halt) (written : Result Status Stop) → IfOk writt
 write-failed-halt h (Ok status) is same = absurd (no-fault h (sym is ∙ same))
 write-failed-halt h (Err SinkStop) is same = refl
 write-failed-halt h (Err Memory) is same = absurd (cc)
+
+-- a command that stopped isn't done
+not-done : (h : Halt) → ((halt_outcome h).status ≡ Done) ⊎ ((halt_outcome h).status ≡ Unfinished) → ⊥
+not-done (halt.Unread line) (inl is) = cc
+not-done (halt.Unread line) (inr is) = cc
+not-done (halt.TooLong line) (inl is) = cc
+not-done (halt.TooLong line) (inr is) = cc
+not-done (halt.PortfolioRefused line) (inl is) = cc
+not-done (halt.PortfolioRefused line) (inr is) = cc
+not-done (halt.ScriptRefused line) (inl is) = cc
+not-done (halt.ScriptRefused line) (inr is) = cc
+not-done halt.Memory (inl is) = cc
+not-done halt.Memory (inr is) = cc
+
+pub not-done-halt : (h : Halt) (written : Result Status Stop) → IfOk written (λ s. s ≡ (halt_outcome h).status) → (status_of written ≡ Done) ⊎ (status_of written ≡ Unfinished) → ⊥
+not-done-halt h (Ok status) is (inl done) = not-done h (inl (sym is ∙ done))
+not-done-halt h (Ok status) is (inr done) = not-done h (inr (sym is ∙ done))
+not-done-halt h (Err SinkStop) is (inl done) = cc
+not-done-halt h (Err SinkStop) is (inr done) = cc
+not-done-halt h (Err Memory) is (inl done) = cc
+not-done-halt h (Err Memory) is (inr done) = cc
+
+-- a file that wasn't read is a fault more
+pub unread-rose : {A : Type 0} (r : Result A Halt) (before now : ℕ) → now ≡ read_faults r before → OnUnread r (Rose before now)
+unread-rose (Ok value) before now is = tt
+unread-rose (Err (halt.Unread line)) before now is = rose-next before now is
+unread-rose (Err (halt.TooLong line)) before now is = tt
+unread-rose (Err (halt.PortfolioRefused line)) before now is = tt
+unread-rose (Err (halt.ScriptRefused line)) before now is = tt
+unread-rose (Err halt.Memory) before now is = tt
+
+-- where the status isn't that of a read that failed, nor of a write that did or of want of memory, no read has failed
+pub none-unread-halt : (A : Type 0) (h : Halt) (written : Result Status Stop) (before : ℕ) → IfOk written (λ s. s ≡ (halt_outcome h).status)
+    → status_of written ≢ ReadFault → status_of written ≢ WriteFault → status_of written ≢ NoMemory → read_faults {A = A} (Err h) before ≡ before
+none-unread-halt A (halt.Unread line) (Ok status) before is read write memory = absurd (read is)
+none-unread-halt A (halt.Unread line) (Err SinkStop) before is read write memory = absurd (write refl)
+none-unread-halt A (halt.Unread line) (Err Memory) before is read write memory = absurd (memory refl)
+none-unread-halt A (halt.TooLong line) written before is read write memory = refl
+none-unread-halt A (halt.PortfolioRefused line) written before is read write memory = refl
+none-unread-halt A (halt.ScriptRefused line) written before is read write memory = refl
+none-unread-halt A halt.Memory written before is read write memory = refl
+
+-- where the status isn't that of a write that failed, no write has
+pub none-unwritten : (written : Result Status Stop) (before : ℕ) → status_of written ≢ WriteFault → faults_after written before ≡ before
+none-unwritten (Ok status) before other = refl
+none-unwritten (Err SinkStop) before other = absurd (other refl)
+none-unwritten (Err Memory) before other = refl
+
+-- where the sink failed, its count rose
+pub sink-rose : (written : Result Status Stop) (before now : ℕ) → now ≡ faults_after written before → written ≡ Err SinkStop → Rose before now
+sink-rose written before now is failed = rose-next before now (is ∙ ap (λ (w : Result Status Stop). faults_after w before) failed)
 
 -- ---- the line
 

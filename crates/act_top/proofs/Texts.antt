@@ -1,11 +1,12 @@
 -- Texts that are written piece by piece.
-use Rattle.std.proofs.Common.{◌≡◌, ℕ, ◌+◌, ◌<◌, ◌≤◌, zero, suc, List, [], ◌∷◌, ◌++◌, length, take, drop, get_or, drop-cons, add-one, Option, None, Some, Result, Ok, Err, inl, inr, refl, sym, ap, subst, ◌∙◌, arith, append_assoc, append-nil, length-append}
+use Rattle.std.proofs.Common.{◌≡◌, ℕ, ◌+◌, ◌<◌, ◌≤◌, zero, suc, List, [], ◌∷◌, ◌++◌, length, take, drop, get_or, drop-cons, add-one, Option, None, Some, Result, Ok, Err, inl, inr, ◌⊎◌, min, refl, sym, ap, subst, ◌∙◌, arith, append_assoc, append-nil, length-append}
 use Rattle.std.specs.Result.{IsErrAnd}
+use Rattle.std.proofs.Math.Nat.{eq-or-lt_of_le, min-le_right}
 use Rattle.std.proofs.Math.Seq.{take-append-add}
 use Rattle.std.proofs.lemmas.List.{take-append-drop, take-append-le, length-take, drop_all}
-use Rattle.act_io.specs.Faults.{Rose}
+use Rattle.act_io.specs.Faults.{Rose, last_count, next_count}
 use Rattle.act_io.specs.Put.{written_after}
-use Rattle.act_top.specs.Written.{IsPartAt, Writes}
+use Rattle.act_top.specs.Written.{IsPartAt, Writes, faults_after}
 use Rattle.act_top.specs.declared.writing.Stop.{Stop}
 use Rattle.act_top.specs.declared.writing.Stop.TheVariants.{Sink as SinkStop, Memory}
 
@@ -98,24 +99,18 @@ writes-part (Err s) stop text before after is part = subst (λ (t : Stop). IsPar
 pub writes-none : {A : Type 0} (r : Result A Stop) (text : List ℕ) (before : Option (List ℕ)) → IsErrAnd r (λ s. s ≡ Memory) → Writes r text before before
 writes-none r text before is = writes-part r Memory text before before is (record { bytes = 0; put = sym (written-nothing before) })
 
--- nor did the sink fail
-pub not-failed : {A : Type 0} (r : Result A Stop) (Failed : Type 0) → IsErrAnd r (λ s. s ≡ Memory) → r ≡ Err SinkStop → Failed
-not-failed (Ok value) Failed is failed = absurd is
-not-failed (Err s) Failed is failed = absurd (cc)
-
--- what was written whole didn't fail
-pub never-failed : {A : Type 0} (value : A) (Failed : Type 0) → ◌≡◌ {A = Result A Stop} (Ok value) (Err SinkStop) → Failed
-never-failed value Failed is = absurd (cc)
-
--- the sink failed behind what was written before
-pub rose-behind : (before middle now : ℕ) → before ≤ middle → Rose middle now → Rose before now
-rose-behind before middle now below (inl more) = inl (omega arith)
-rose-behind before middle now below (inr last) = inr last
-
 -- where a stop is handed on, the sink failed where it had
-pub failed-on : (B : Type 0) {A : Type 0} (r : Result A Stop) (stop : Stop) (Failed : Type 0) → IsErrAnd r (λ s. s ≡ stop) → (◌≡◌ {A = Result B Stop} (Err stop) (Err SinkStop) → Failed) → r ≡ Err SinkStop → Failed
-failed-on B (Ok value) stop Failed is next failed = absurd is
-failed-on B (Err s) stop Failed is next failed = let same : s ≡ SinkStop = cc in next (ap (λ (t : Stop). Err t) (sym is ∙ same))
+pub faults-on : (B : Type 0) {A : Type 0} (r : Result A Stop) (stop : Stop) (before now : ℕ) → IsErrAnd r (λ s. s ≡ stop) → now ≡ faults_after {A = B} (Err stop) before → now ≡ faults_after r before
+faults-on B (Ok value) stop before now is same = absurd is
+faults-on B (Err s) stop before now is same = same ∙ ap (λ (t : Stop). faults_after {A = B} (Err t) before) (sym is)
+
+-- a count that went up rose
+pub rose-next : (before now : ℕ) → now ≡ next_count before → Rose before now
+rose-next before now is = by (eq-or-lt_of_le (min-le_right (before + 1) last_count))
+  where
+    by : (next_count before ≡ last_count) ⊎ (next_count before < last_count) → Rose before now
+    by (inl last) = inr (is ∙ last)
+    by (inr below) = inl (omega (arith, is, below))
 
 -- the same of the first text of two
 pub writes-first : {A : Type 0} (r : Result A Stop) (stop : Stop) (a b : List ℕ) (before after : Option (List ℕ)) → IsErrAnd r (λ s. s ≡ stop) → IsPartAt stop a before after → Writes r (a ++ b) before after

@@ -1,14 +1,24 @@
 -- The words of a command. This profile's own.
 use Rattle.std.specs.Prelude.{ℕ, if◌then◌else◌, List, [], ◌∷◌, bytes_eq, codes, Option, Some, None}
-use Rattle.std.specs.Option.{option_to_list}
-use Rattle.act_top.specs.declared.command.Verb.{Verb}
-use Rattle.act_top.specs.declared.command.Verb.TheVariants.{Eval, Check}
+use Rattle.std.specs.Option.{option_map, option_to_list}
+use Rattle.act_top.specs.declared.command.Command.{Command}
+use Rattle.act_top.specs.declared.command.Command.TheVariants as command
+
+-- what a command does: it evaluates contracts, or checks a portfolio
+pub data Verb : Type 0 where
+  Eval : Verb
+  Check : Verb
 
 -- a command: what it does, with which portfolio file, and with which script, where one is named
 pub record CommandWords : Type 0 where
   pub verb : Verb
   pub portfolio : List ℕ
   pub script : Option (List ℕ)
+
+-- the same of the program's command
+abbrev pub words_of : Command → CommandWords
+words_of (command.Eval portfolio script) = record { verb = Eval; portfolio = portfolio.now; script = option_map (λ s. s.now) script }
+words_of (command.Check portfolio) = record { verb = Check; portfolio = portfolio.now; script = None }
 
 -- the command of words: `eval P`, `eval P S` or `check P`; other words are of no form
 abbrev pub command_of : List (List ℕ) → Option CommandWords

@@ -1,6 +1,7 @@
 -- What a command comes to that stops before it writes its text: a line in its place, and the names that were asked for. This profile's own.
 use Rattle.std.specs.Prelude.{◌≡◌, ◌<◌, ◌⊎◌, ℕ, List, [], ◌∷◌, length, Option, Some, None, IfSome, Result, Ok, Err, ⊤, Vec}
 use Rattle.std.specs.declared.alloc.Global.{Global}
+use Rattle.act_io.specs.Faults.{next_count}
 use Rattle.act_top.specs.Asked.{Asks, AsksFirst, NamesFile}
 use Rattle.act_top.specs.Command.{CommandWords, files_of}
 use Rattle.act_top.specs.Output.{Outcome, long_outcome, read_outcome}
@@ -13,11 +14,11 @@ use Rattle.act_top.specs.declared.top.Status.TheVariants.{ReadFault, TooLong, Po
 
 -- the status and the line of a halt; no line where memory ran out
 abbrev pub halt_outcome : Halt → Outcome
-halt_outcome (halt.Unread line) = record { status = ReadFault; text = line.items }
-halt_outcome (halt.TooLong line) = record { status = TooLong; text = line.items }
-halt_outcome (halt.PortfolioRefused line) = record { status = PortfolioRefused; text = line.items }
-halt_outcome (halt.ScriptRefused line) = record { status = ScriptRefused; text = line.items }
-halt_outcome halt.Memory = record { status = NoMemory; text = [] }
+halt_outcome (halt.Unread line) = record { status = ReadFault; text = line.items; rows = 0 }
+halt_outcome (halt.TooLong line) = record { status = TooLong; text = line.items; rows = 0 }
+halt_outcome (halt.PortfolioRefused line) = record { status = PortfolioRefused; text = line.items; rows = 0 }
+halt_outcome (halt.ScriptRefused line) = record { status = ScriptRefused; text = line.items; rows = 0 }
+halt_outcome halt.Memory = record { status = NoMemory; text = []; rows = 0 }
 
 -- the refusal that a halt is: reading that failed and want of memory are none
 abbrev pub refusal_of : Halt → Option Outcome
@@ -45,6 +46,15 @@ RefusesOnly portfolio script (halt.TooLong line) = ⊥
 RefusesOnly portfolio script (halt.PortfolioRefused line) = portfolio
 RefusesOnly portfolio script (halt.ScriptRefused line) = script
 RefusesOnly portfolio script halt.Memory = ⊤
+
+-- the count of faults of files, one higher where reading failed
+abbrev pub read_faults : {A : Type 0} → Result A Halt → ℕ → ℕ
+read_faults (Ok value) before = before
+read_faults (Err (halt.Unread line)) before = next_count before
+read_faults (Err (halt.TooLong line)) before = before
+read_faults (Err (halt.PortfolioRefused line)) before = before
+read_faults (Err (halt.ScriptRefused line)) before = before
+read_faults (Err halt.Memory) before = before
 
 -- where reading a file failed, that holds
 abbrev pub OnUnread : {A : Type 0} → Result A Halt → Type 0 → Type 0

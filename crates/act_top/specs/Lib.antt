@@ -3,5 +3,5 @@ pub mod Command
 pub mod Halts
 pub mod Output
 pub mod Ready
-pub mod Tasks
+pub mod Jobs
 pub mod Written

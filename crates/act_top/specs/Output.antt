@@ -1,6 +1,6 @@
 -- What the commands write, and the status that they end with. This profile's own.
 use Rattle.std.specs.Prelude.{◌≡◌, ℕ, ◌+◌, nat_lt, if◌then◌else◌, Bool, true, false, List, [], ◌∷◌, ◌++◌, length, map, take, codes, decimal, Option, Some, None, option_map, option_and_then, Result, Ok, Err, ⊤}
-use Rattle.std.specs.List.{count_by, filter_map, flat_map, list_all, range_with_len, sum}
+use Rattle.std.specs.List.{count_by, filter_map, flat_map, list_all, range_with_len, sum, sum_by}
 use Rattle.act_io.specs.Put.{written_after}
 use Rattle.act_model.specs.Limits.{most_bytes}
 use Rattle.act_model.specs.Name.{has_form}
@@ -19,20 +19,17 @@ use Rattle.act_model.specs.declared.terms.Terms.{Terms}
 use Rattle.act_portfolio.specs.Counts.{cone_sum, scheduled_count}
 use Rattle.act_portfolio.specs.Reading.{Accepted, portfolio_of}
 use Rattle.act_portfolio.specs.Refusal.{Refusal}
-use Rattle.act_model.specs.Asks.{asks_of}
-use Rattle.act_model.specs.Journal.{book_of, contracts_of}
-use Rattle.act_print.specs.Printed.{Block, Response, printed_block}
+use Rattle.act_model.specs.Answer.{Reply}
+use Rattle.act_model.specs.Run.{Stream}
+use Rattle.act_print.specs.Printed.{printed_answer}
 use Rattle.act_print.specs.Text.{text_of}
-use Rattle.act_model.specs.declared.asks.Asking.{Asking}
-use Rattle.act_profile.specs.Run.{run_of}
+use Rattle.act_profile.specs.Answers.{answers_of}
 use Rattle.act_script.specs.Reading.{Script, script_of}
 use Rattle.act_script.specs.Weight.{Tariff, all_asks, overweight}
 use Rattle.act_script.specs.declared.fault.ScriptFault.{ScriptFault}
 use Rattle.act_script.specs.declared.fault.ScriptFault.TheVariants.{NotLine, UnknownName, EventUnfit, TooManyEntries, NoMemory as NoMemoryToRead}
 use Rattle.act_text.specs.Lines.{line_of}
-use Rattle.act_top.specs.Command.{CommandWords}
-use Rattle.act_top.specs.declared.command.Verb.{Verb}
-use Rattle.act_top.specs.declared.command.Verb.TheVariants.{Eval, Check}
+use Rattle.act_top.specs.Command.{CommandWords, Verb, Eval, Check}
 use Rattle.act_top.specs.declared.top.Status.{Status}
 use Rattle.act_top.specs.declared.writing.Stop.{Stop}
 use Rattle.act_top.specs.declared.writing.Stop.TheVariants.{Sink as SinkStop, Memory}
@@ -44,33 +41,46 @@ status_of (Ok status) = status
 status_of (Err SinkStop) = WriteFault
 status_of (Err Memory) = NoMemory
 
--- a status, and what is written with it
+-- the number of a status, the program's exit status
+abbrev pub status_number : Status → ℕ
+status_number Done = 0
+status_number Words = 2
+status_number ReadFault = 3
+status_number TooLong = 4
+status_number PortfolioRefused = 5
+status_number ScriptRefused = 6
+status_number WriteFault = 7
+status_number Unfinished = 8
+status_number NoMemory = 9
+
+-- a status, what is written with it, and how many rows are calculated for it
 pub record Outcome : Type 0 where
   pub status : Status
   pub text : List ℕ
+  pub rows : ℕ
 
 -- ---- lines that refuse
 
 -- words of no form: the usage line
 abbrev pub words_outcome : Outcome
-words_outcome = record { status = Words; text = codes "usage: eval P [S] | check P | desk W P S.. | big N W\n" }
+words_outcome = record { status = Words; text = codes "usage: eval P [S] | check P | desk W P S.. | big N W\n"; rows = 0 }
 
 -- a file that wasn't read, or that is too long: a line with its name
 abbrev pub read_outcome : List ℕ → Outcome
-read_outcome name = record { status = ReadFault; text = line_of (codes "read") (name ∷ []) }
+read_outcome name = record { status = ReadFault; text = line_of (codes "read") (name ∷ []); rows = 0 }
 
 abbrev pub long_outcome : List ℕ → Outcome
-long_outcome name = record { status = TooLong; text = line_of (codes "long") (name ∷ []) }
+long_outcome name = record { status = TooLong; text = line_of (codes "long") (name ∷ []); rows = 0 }
 
 -- a portfolio that is refused: the number, the contract's place, and what is refused
 abbrev pub portfolio_refused : Refusal → Outcome
 portfolio_refused refusal =
-    record { status = PortfolioRefused; text = line_of (codes "portfolio") (decimal refusal.number ∷ decimal refusal.place ∷ refusal.what ∷ []) }
+    record { status = PortfolioRefused; text = line_of (codes "portfolio") (decimal refusal.number ∷ decimal refusal.place ∷ refusal.what ∷ []); rows = 0 }
 
 -- a script that is refused: the number, the script's place from 1, and the line
 abbrev pub script_refused : ℕ → ℕ → ℕ → Outcome
 script_refused number script line =
-    record { status = ScriptRefused; text = line_of (codes "script") (decimal number ∷ decimal script ∷ decimal line ∷ []) }
+    record { status = ScriptRefused; text = line_of (codes "script") (decimal number ∷ decimal script ∷ decimal line ∷ []); rows = 0 }
 
 -- the line of the one script's fault. Want of memory is no refusal, and no bytes are refused by it
 abbrev pub script_fault : ScriptFault → Outcome
@@ -78,7 +88,7 @@ script_fault (NotLine line) = script_refused 1 1 line
 script_fault (UnknownName line) = script_refused 2 1 line
 script_fault (EventUnfit line) = script_refused 3 1 line
 script_fault (TooManyEntries line) = script_refused 4 1 line
-script_fault NoMemoryToRead = record { status = NoMemory; text = [] }
+script_fault NoMemoryToRead = record { status = NoMemory; text = []; rows = 0 }
 
 -- ---- files
 
@@ -149,27 +159,9 @@ too_much_asked portfolio lines = overweight (all_asks (tariff_of portfolio lines
 abbrev pub items_of : List Line → List Item
 items_of lines = map (λ (line : Line). record { caller = 1; step = line.step }) lines
 
--- the block of a contract: its run from inception over these entries
-abbrev pub block_of : Accepted → List Obs → ℕ → Block
-block_of portfolio entries c = printed_block (c, run_of portfolio.contracts entries c)
-
--- the answer to an ask: each contract asked, in portfolio order, with its run from inception over the entries before the ask
-abbrev pub response_of : Accepted → NameLists → List Obs → Asking → Response
-response_of portfolio names entries asking =
-    record {
-      caller = asking.caller;
-      number = asking.number;
-      version = asking.version;
-      blocks = map (block_of portfolio (take asking.version entries)) (contracts_of names asking.asked);
-    }
-
--- the answers to the asks of a journal, by caller and then by number
-abbrev pub responses_of : Accepted → NameLists → List Item → List Response
-responses_of portfolio names items = map (response_of portfolio names (book_of items)) (asks_of items)
-
 -- the text of a journal and its answers
 abbrev pub output_of : Accepted → NameLists → List Item → List ℕ
-output_of portfolio names items = text_of names items (responses_of portfolio names items)
+output_of portfolio names items = text_of names items (map printed_answer (answers_of portfolio.contracts names items))
 
 -- a run that wasn't stopped
 abbrev pub is_end : Close → Bool
@@ -177,21 +169,26 @@ is_end End = true
 is_end (Missing code day) = false
 is_end (Overflow day kind) = false
 
--- each contract of some answers ends well
-abbrev pub all_end : List Response → Bool
-all_end responses = list_all (λ (r : Response). list_all (λ (b : Block). is_end b.close) r.blocks) responses
+-- each run of an answer ends well
+abbrev pub ends_well : Reply → Bool
+ends_well answer = list_all (λ (run : ℕ × Stream). is_end run.1.close) answer.runs
+
+-- how many rows an answer has
+abbrev pub row_count : Reply → ℕ
+row_count answer = sum_by (λ (run : ℕ × Stream). length run.1.rows) answer.runs
 
 -- the status of answers
-abbrev pub answers_status : List Response → Status
-answers_status responses = if all_end responses then Done else Unfinished
+abbrev pub answers_status : List Reply → Status
+answers_status answers = if list_all ends_well answers then Done else Unfinished
 
 -- what is written of a script, unless its asks weigh too much
 unfoldable pub eval_outcome : Accepted → Script → Outcome
 eval_outcome portfolio script = elim (too_much_asked portfolio script.lines) [
   | Some ask ↦ script_refused 5 ask.0 ask.1
   | None ↦ record {
-    status = answers_status (responses_of portfolio script.names (items_of script.lines));
+    status = answers_status (answers_of portfolio.contracts script.names (items_of script.lines));
     text = output_of portfolio script.names (items_of script.lines);
+    rows = sum_by row_count (answers_of portfolio.contracts script.names (items_of script.lines));
   }
 ]
 
@@ -239,7 +236,7 @@ script_outcome portfolio (Err outcome) = outcome
 -- the outcome of a command over a portfolio, where the bytes of the script are told
 abbrev pub verb_outcome : (List ℕ → Option (List ℕ)) → Verb → Option (List ℕ) → Result Accepted Outcome → Option Outcome
 verb_outcome content verb script (Err outcome) = Some outcome
-verb_outcome content Check script (Ok portfolio) = Some (record { status = Done; text = check_text portfolio })
+verb_outcome content Check script (Ok portfolio) = Some (record { status = Done; text = check_text portfolio; rows = 0 })
 verb_outcome content Eval script (Ok portfolio) = option_map (script_outcome portfolio) (script_told content portfolio script)
 
 -- the outcome of words over the bytes of files by name, where those that are read are told

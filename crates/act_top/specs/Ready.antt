@@ -1,13 +1,18 @@
 -- What is ready to be written. This profile's own.
-use Rattle.std.specs.Prelude.{◌≡◌, ◌<◌, ◌≤◌, ℕ, not, true, List, [], ◌++◌, length, slice_get, Some, None}
-use Rattle.std.specs.List.{All, count_by, flat_map}
+use Rattle.std.specs.Prelude.{◌≡◌, ◌<◌, ◌≤◌, ℕ, not, true, List, [], ◌++◌, length, map, slice_get, Some, None}
+use Rattle.std.specs.Arc.{arc_value}
+use Rattle.std.specs.declared.sync.Arc.{Arc}
+use Rattle.std.specs.List.{All, count_by, flat_map, sum_by}
+use Rattle.std.specs.declared.alloc.Global.{Global}
+use Rattle.act_model.specs.Run.{Stream}
 use Rattle.act_model.specs.Limits.{most_entries}
 use Rattle.act_model.specs.declared.journal.Line.{Line}
 use Rattle.act_portfolio.specs.Reading.{Accepted}
 use Rattle.act_print.specs.Text.{answers_head_text, item_text, journal_head_text}
 use Rattle.act_script.specs.Reading.{Script}
 use Rattle.act_model.specs.Journal.{appends_entry, is_append, is_known}
-use Rattle.act_top.specs.Output.{Outcome, answers_status, items_of, output_of, responses_of, too_much_asked}
+use Rattle.act_profile.specs.Answers.{answers_of}
+use Rattle.act_top.specs.Output.{Outcome, answers_status, items_of, output_of, row_count, too_much_asked}
 
 -- what is true of the lines of a script of a portfolio: the contracts are the portfolio's, what a step names is named, what it appends is an
 -- entry of a book, and a book holds them all
@@ -33,6 +38,10 @@ pub record Evaluation : Type 0 where
   pub portfolio : Accepted
   pub script : Script
 
+-- the runs of contracts, each with its contract
+abbrev pub runs_of : List (ℕ × Arc Stream Global) → List (ℕ × Stream)
+runs_of runs = map (λ (run : ℕ × Arc Stream Global). (run.0, arc_value run.1)) runs
+
 -- what is written of a script above its answers: the journal, and how many answers follow
 abbrev pub opening_text : Script → List ℕ
 opening_text script =
@@ -42,6 +51,7 @@ opening_text script =
 -- what is written of an evaluation, and the status that it ends with
 abbrev pub evaluation_outcome : Evaluation → Outcome
 evaluation_outcome evaluation = record {
-  status = answers_status (responses_of evaluation.portfolio evaluation.script.names (items_of evaluation.script.lines));
+  status = answers_status (answers_of evaluation.portfolio.contracts evaluation.script.names (items_of evaluation.script.lines));
   text = output_of evaluation.portfolio evaluation.script.names (items_of evaluation.script.lines);
+  rows = sum_by row_count (answers_of evaluation.portfolio.contracts evaluation.script.names (items_of evaluation.script.lines));
 }

@@ -1,5 +1,6 @@
 -- Texts that are written piece by piece, up to a fault. This profile's own.
 use Rattle.std.specs.Prelude.{◌≡◌, ◌<◌, ◌⊎◌, ℕ, List, length, take, Option, IsSomeAnd, Result, Ok, Err}
+use Rattle.act_io.specs.Faults.{next_count}
 use Rattle.act_io.specs.Put.{written_after}
 use Rattle.act_top.specs.Asked.{NamesFile}
 use Rattle.act_top.specs.Command.{CommandWords}
@@ -27,6 +28,12 @@ IsPartAt Memory text before after = IsPart text before after
 abbrev pub Writes : {A : Type 0} → Result A Stop → List ℕ → Option (List ℕ) → Option (List ℕ) → Type 0
 Writes (Ok value) text before after = after ≡ written_after before text
 Writes (Err stop) text before after = IsPartAt stop text before after
+
+-- the count of faults of a sink, one higher where it failed
+abbrev pub faults_after : {A : Type 0} → Result A Stop → ℕ → ℕ
+faults_after (Ok value) before = before
+faults_after (Err SinkStop) before = next_count before
+faults_after (Err Memory) before = before
 
 -- where the text of the outcome isn't written whole: a part of it was written, or, where reading failed, of the line that names the file, which
 -- is the last that was asked for

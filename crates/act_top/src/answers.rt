@@ -1,25 +1,29 @@
-//! What an evaluation writes: the journal of its script, and the answers.
-ghost use Rattle.std.specs.Prelude.{◌≡◌, ◌≤◌, true, length, Err, IfOk, map};
-ghost use Rattle.std.specs.List.{All, flat_map, list_all};
-ghost use Rattle.act_io.specs.Faults.{Rose};
+//! The answers to the asks of a script, evaluated and written one after the other.
+ghost use Rattle.std.specs.Prelude.{◌≡◌, ◌+◌, ◌-◌, ◌≤◌, ◌<◌, true, length, Err, IfOk, map};
+ghost use Rattle.std.specs.Arc.{arc_value};
+ghost use Rattle.std.specs.List.{All, flat_map, list_all, range_with_len, sum_by};
 ghost use Rattle.act_model.specs.Journal.{contracts_of, is_known, book_of};
-ghost use Rattle.act_print.specs.Printed.{Block};
-ghost use Rattle.act_print.specs.Text.{answer_head_text, answer_text, answers_head_text, block_text};
-ghost use Rattle.act_top.specs.Output.{all_end, block_of, is_end, items_of, output_of, response_of, responses_of};
-ghost use Rattle.act_top.specs.Ready.{opening_text};
-ghost use Rattle.act_top.specs.Written.{Writes};
-ghost use Rattle.act_top.specs.declared.writing.Stop.TheVariants.{Sink as SinkStop};
+ghost use Rattle.act_model.specs.Run.{Stream};
+ghost use Rattle.act_print.specs.Printed.{printed_answer};
+ghost use Rattle.act_print.specs.Text.{answer_text};
+ghost use Rattle.act_profile.specs.Answers.{answer_to, answers_of};
+ghost use Rattle.act_profile.specs.Run.{run_of};
+ghost use Rattle.act_top.specs.Output.{ends_well, is_end, items_of, output_of, row_count};
+ghost use Rattle.act_top.specs.Ready.{AreAlone, runs_of};
+ghost use Rattle.act_top.specs.Written.{Writes, faults_after};
 
 use crate::evaluation::Evaluation;
-use crate::journal::{CALLER, ask_count, book_of, write_journal};
-use crate::reading::Script;
-use crate::writing::{Stop, write_line};
+use crate::journal::{CALLER, book_of};
+use crate::transcript::{write_answer, write_opening};
+use crate::writing::Stop;
 use act_book::{Book, Snapshot};
 use act_io::Sink;
-use act_model::{Answer, Asked, Asking, Step};
-use act_num::Steps;
-use act_print::{answer_head, answers_head};
+use act_model::{Answer, Asked, Asking, Close, Run, Step};
+use act_num::{NoMemory, Steps};
+use act_portfolio::Portfolio;
+use act_run::{evaluate, run_without_children};
 use std::alloc::Global;
+use std::sync::Arc;
 use std::sync::ledger::Ledger;
 
 impl Evaluation {
@@ -33,17 +37,19 @@ impl Evaluation {
         ensures text { Writes result (output_of self.now.portfolio self.now.script.names (items_of self.now.script.lines))
             (K.written out.old) (K.written out.new) }
         ensures ended { IfOk result (λ ended. ended
-            ≡ all_end (responses_of self.now.portfolio self.now.script.names (items_of self.now.script.lines))) }
-        ensures failed { result ≡ Err SinkStop → Rose (K.faults out.old) (K.faults out.new) }
+            ≡ list_all ends_well (answers_of self.now.portfolio.contracts self.now.script.names (items_of self.now.script.lines))) }
+        ensures ticked { IfOk result (λ _. steps.new
+            ≡ steps.old + sum_by row_count (answers_of self.now.portfolio.contracts self.now.script.names (items_of self.now.script.lines))) }
+        ensures faults { K.faults out.new ≡ faults_after result (K.faults out.old) }
     {
         let book = book_of(alloc, &self.script.lines)?;
         let mut line = Vec::new(alloc);
         write_opening(out, &mut line, &self.script)?;
-        self.write_responses(alloc, out, &mut line, &book, steps)
+        self.write_answers(alloc, out, &mut line, &book, steps)
     }
 
     /// Writes the answers to the asks of the script, in order, and answers whether each block ends in `end`.
-    fn write_responses<K: Sink, L: Ledger>(
+    fn write_answers<K: Sink, L: Ledger>(
         &self,
         alloc: Global,
         out: &mut K,
@@ -52,12 +58,13 @@ impl Evaluation {
         steps: &mut Steps<L>,
     ) -> Result<bool, Stop>
         requires { book.now ≡ book_of (items_of self.now.script.lines) }
-        ensures text { Writes result (flat_map (answer_text self.now.script.names)
-            (responses_of self.now.portfolio self.now.script.names (items_of self.now.script.lines))) (K.written out.old) (K.written out.new) }
+        ensures text { Writes result (flat_map (λ answer. answer_text self.now.script.names (printed_answer answer))
+            (answers_of self.now.portfolio.contracts self.now.script.names (items_of self.now.script.lines))) (K.written out.old) (K.written out.new) }
         ensures ended { IfOk result (λ ended. ended
-            ≡ all_end (responses_of self.now.portfolio self.now.script.names (items_of self.now.script.lines))) }
-        ensures failed { result ≡ Err SinkStop → Rose (K.faults out.old) (K.faults out.new) }
-        ensures count { K.faults out.old ≤ K.faults out.new }
+            ≡ list_all ends_well (answers_of self.now.portfolio.contracts self.now.script.names (items_of self.now.script.lines))) }
+        ensures ticked { IfOk result (λ _. steps.new
+            ≡ steps.old + sum_by row_count (answers_of self.now.portfolio.contracts self.now.script.names (items_of self.now.script.lines))) }
+        ensures faults { K.faults out.new ≡ faults_after result (K.faults out.old) }
     {
         let mut number = 1;
         let mut version = 0;
@@ -72,8 +79,8 @@ impl Evaluation {
                         version,
                         asked,
                     };
-                    let all_end = self.write_response(alloc, out, line, book, ask, steps)?;
-                    ended &= all_end;
+                    let ends = self.write_answer_to(alloc, out, line, book, ask, steps)?;
+                    ended &= ends;
                     number += 1;
                 }
             }
@@ -82,7 +89,7 @@ impl Evaluation {
     }
 
     /// Writes the answer to an ask, and answers whether each of its blocks ends in `end`.
-    fn write_response<K: Sink, L: Ledger>(
+    fn write_answer_to<K: Sink, L: Ledger>(
         &self,
         alloc: Global,
         out: &mut K,
@@ -94,107 +101,120 @@ impl Evaluation {
         requires version { ask.version ≤ length book.now }
         requires asked { is_known self.now.script.names (Step.Ask ask.asked) ≡ true }
         ensures text { Writes result
-            (answer_text self.now.script.names (response_of self.now.portfolio self.now.script.names book.now ask))
+            (answer_text self.now.script.names (printed_answer (answer_to self.now.portfolio.contracts self.now.script.names book.now ask)))
             (K.written out.old) (K.written out.new) }
-        ensures ended { IfOk result (λ ended. ended ≡ list_all (λ (b : Block). is_end b.close)
-            (response_of self.now.portfolio self.now.script.names book.now ask).blocks) }
-        ensures failed { result ≡ Err SinkStop → Rose (K.faults out.old) (K.faults out.new) }
-        ensures count { K.faults out.old ≤ K.faults out.new }
+        ensures ended { IfOk result (λ ended. ended
+            ≡ ends_well (answer_to self.now.portfolio.contracts self.now.script.names book.now ask)) }
+        ensures ticked { IfOk result (λ _. steps.new
+            ≡ steps.old + row_count (answer_to self.now.portfolio.contracts self.now.script.names book.now ask)) }
+        ensures faults { K.faults out.new ≡ faults_after result (K.faults out.old) }
     {
-        let seen = book.snapshot(ask.version)?;
-        write_answer_head(alloc, out, line, ask)?;
-        self.write_blocks(alloc, out, line, &seen, ask.asked, steps)
+        let answer = self.answer(alloc, book, ask, steps)?;
+        let written = write_answer(out, line, self.names(), &answer);
+        let ended = all_end(&answer);
+        drop(answer);
+        match written {
+            Ok(()) => Ok(ended),
+            Err(stop) => Err(stop),
+        }
     }
 
-    /// Writes the blocks of the contracts asked for over the entries that are seen, and answers whether each ends in `end`.
-    fn write_blocks<K: Sink, L: Ledger>(
+    /// The answer to an ask over the entries of a book: the run of each contract asked.
+    fn answer<L: Ledger>(
         &self,
         alloc: Global,
-        out: &mut K,
-        line: &mut Vec<u8>,
+        book: &Book,
+        ask: Asking,
+        steps: &mut Steps<L>,
+    ) -> Result<Answer, NoMemory>
+        requires version { ask.version ≤ length book.now }
+        requires asked { is_known self.now.script.names (Step.Ask ask.asked) ≡ true }
+        ensures answer { IfOk result (λ answer. answer ≡ answer_to self.now.portfolio.contracts self.now.script.names book.now ask) }
+        ensures ticked { IfOk result (λ answer. steps.new ≡ steps.old + row_count answer) }
+    {
+        let seen = book.snapshot(ask.version)?;
+        let runs = self.runs(alloc, &seen, ask.asked, steps)?;
+        Ok(Answer {
+            caller: ask.caller,
+            number: ask.number,
+            version: ask.version,
+            runs,
+        })
+    }
+
+    /// The runs of the contracts asked for over the entries that are seen, each with its contract.
+    fn runs<L: Ledger>(
+        &self,
+        alloc: Global,
         seen: &Snapshot,
         asked: Asked,
         steps: &mut Steps<L>,
-    ) -> Result<bool, Stop>
-        requires asked { is_known self.now.script.names (Step.Ask asked) ≡ true }
-        ensures text { Writes result (flat_map (block_text self.now.script.names)
-            (map (block_of self.now.portfolio seen.now) (contracts_of self.now.script.names asked))) (K.written out.old) (K.written out.new) }
-        ensures ended { IfOk result (λ ended. ended ≡ list_all (λ (b : Block). is_end b.close)
-            (map (block_of self.now.portfolio seen.now) (contracts_of self.now.script.names asked))) }
-        ensures failed { result ≡ Err SinkStop → Rose (K.faults out.old) (K.faults out.new) }
-        ensures count { K.faults out.old ≤ K.faults out.new }
+    ) -> Result<Vec<(u32, Arc<Run, Global>)>, NoMemory>
+        requires { is_known self.now.script.names (Step.Ask asked) ≡ true }
+        ensures runs { IfOk result (λ runs. runs_of runs.items
+            ≡ map (λ c. (c, run_of self.now.portfolio.contracts seen.now c)) (contracts_of self.now.script.names asked)) }
+        ensures ticked { IfOk result (λ runs. steps.new ≡ steps.old + sum_by (λ run. length run.1.rows) (runs_of runs.items)) }
     {
+        let (first, end) = self.numbers(asked);
+        let mut runs = Vec::new(alloc);
+        for contract in first..end {
+            let run = run_of(alloc, &self.portfolio, seen, contract, steps)?;
+            runs.push((contract, Arc::new(alloc, run)?))?;
+        }
+        Ok(runs)
+    }
+
+    /// The numbers of the contracts asked for: from one on, as far as to another.
+    fn numbers(&self, asked: Asked) -> (u32, u32)
+        requires { is_known self.now.script.names (Step.Ask asked) ≡ true }
+        ensures numbers { contracts_of self.now.script.names asked ≡ range_with_len result.0 (result.1 - result.0) }
+        ensures order { result.0 ≤ result.1 }
+        ensures within { result.1 ≤ length self.now.portfolio.contracts.terms }
+    {
+        let named = self.portfolio.named();
         match asked {
-            Asked::All => self.write_all_blocks(alloc, out, line, seen, steps),
-            Asked::One(contract) => self.write_block(alloc, out, line, seen, contract, steps),
+            Asked::All => (0, named),
+            Asked::One(contract) if contract < named => (contract, contract + 1),
+            Asked::One(_) => unreachable!(),
         }
     }
-
-    /// Writes the blocks of all contracts over the entries that are seen, and answers whether each ends in `end`.
-    fn write_all_blocks<K: Sink, L: Ledger>(
-        &self,
-        alloc: Global,
-        out: &mut K,
-        line: &mut Vec<u8>,
-        seen: &Snapshot,
-        steps: &mut Steps<L>,
-    ) -> Result<bool, Stop>
-        ensures text { Writes result (flat_map (block_text self.now.script.names)
-            (map (block_of self.now.portfolio seen.now) (contracts_of self.now.script.names Asked.All))) (K.written out.old) (K.written out.new) }
-        ensures ended { IfOk result (λ ended. ended ≡ list_all (λ (b : Block). is_end b.close)
-            (map (block_of self.now.portfolio seen.now) (contracts_of self.now.script.names Asked.All))) }
-        ensures failed { result ≡ Err SinkStop → Rose (K.faults out.old) (K.faults out.new) }
-        ensures count { K.faults out.old ≤ K.faults out.new }
-    {
-        let mut ended = true;
-        for contract in 0..self.portfolio.named() {
-            let ends = self.write_block(alloc, out, line, seen, contract, steps)?;
-            ended &= ends;
-        }
-        Ok(ended)
-    }
 }
 
-/// Writes the journal of a script, and the line above its answers.
-fn write_opening<K: Sink>(out: &mut K, line: &mut Vec<u8>, script: &Script) -> Result<(), Stop>
-    requires { All (λ line. is_known script.now.names line.step ≡ true) script.now.lines }
-    ensures text { Writes result (opening_text script.now) (K.written out.old) (K.written out.new) }
-    ensures failed { result ≡ Err SinkStop → Rose (K.faults out.old) (K.faults out.new) }
-    ensures count { K.faults out.old ≤ K.faults out.new }
-{
-    write_journal(out, line, &script.names, &script.lines)?;
-    write_answers_head(out, line, ask_count(&script.lines))
-}
-
-/// Writes the line above so many answers.
-fn write_answers_head<K: Sink>(out: &mut K, line: &mut Vec<u8>, count: usize) -> Result<(), Stop>
-    ensures text { Writes result (answers_head_text count) (K.written out.old) (K.written out.new) }
-    ensures failed { result ≡ Err SinkStop → Rose (K.faults out.old) (K.faults out.new) }
-    ensures count { K.faults out.old ≤ K.faults out.new }
-{
-    line.clear();
-    answers_head(count, line)?;
-    write_line(out, line)
-}
-
-/// Writes the line above an answer.
-fn write_answer_head<K: Sink>(
+/// The run of a contract over the entries that are seen.
+fn run_of<L: Ledger>(
     alloc: Global,
-    out: &mut K,
-    line: &mut Vec<u8>,
-    ask: Asking,
-) -> Result<(), Stop>
-    ensures text { Writes result (answer_head_text ask.caller ask.number ask.version) (K.written out.old) (K.written out.new) }
-    ensures failed { result ≡ Err SinkStop → Rose (K.faults out.old) (K.faults out.new) }
-    ensures count { K.faults out.old ≤ K.faults out.new }
+    portfolio: &Portfolio,
+    seen: &Snapshot,
+    contract: u32,
+    steps: &mut Steps<L>,
+) -> Result<Run, NoMemory>
+    requires contract { contract < length portfolio.now.contracts.terms }
+    requires alone { AreAlone portfolio.now }
+    ensures run { IfOk result (λ run. run ≡ run_of portfolio.now.contracts seen.now contract) }
+    ensures ticked { IfOk result (λ run. steps.new ≡ steps.old + length run.rows) }
 {
-    let answer = Answer {
-        caller: ask.caller,
-        number: ask.number,
-        version: ask.version,
-        runs: Vec::new(alloc),
-    };
-    line.clear();
-    answer_head(&answer, line)?;
-    write_line(out, line)
+    run_without_children();
+    let terms = &portfolio.terms()[contract as usize];
+    evaluate(alloc, terms, portfolio.plan(contract), &[], seen, steps)
+}
+
+/// Whether each run of an answer ends in `end`.
+fn all_end(answer: &Answer) -> bool
+    ensures { result ≡ ends_well answer.now }
+{
+    are_ended(&answer.runs)
+}
+
+/// Whether each of some runs ends in `end`.
+fn are_ended(runs: &[(u32, Arc<Run, Global>)]) -> bool
+    ensures { result ≡ list_all (λ run. is_end (arc_value {X = Stream} run.1).close) runs.now }
+{
+    runs.iter().all(|run| is_end(&run.1.close))
+}
+
+/// Whether a run wasn't stopped.
+fn is_end(close: &Close) -> bool
+    ensures { result ≡ is_end close.now }
+{
+    matches!(close, Close::End)
 }

@@ -1,14 +1,12 @@
 //! What `check` writes.
 ghost use Rattle.std.specs.Prelude.{◌≡◌, ◌≤◌, ◌++◌, length, map, string_bytes, Err};
 ghost use Rattle.std.specs.List.{flat_map, list_all};
-ghost use Rattle.act_io.specs.Faults.{Rose};
 ghost use Rattle.act_model.specs.Name.{has_form, is_graphic};
 ghost use Rattle.act_model.specs.Kind.{type_of};
 ghost use Rattle.act_text.specs.Lines.{line_of};
 ghost use Rattle.act_model.specs.Kind.{type_name};
 ghost use Rattle.act_top.specs.Output.{check_text, contract_line, contracts_text, count_line, shown_name, unused_line};
-ghost use Rattle.act_top.specs.Written.{Writes};
-ghost use Rattle.act_top.specs.declared.writing.Stop.TheVariants.{Sink as SinkStop};
+ghost use Rattle.act_top.specs.Written.{Writes, faults_after};
 
 use crate::line::push_line;
 use crate::writing::{Stop, write_line};
@@ -26,7 +24,7 @@ pub(crate) fn write_check<K: Sink>(
     portfolio: &Portfolio,
 ) -> Result<(), Stop>
     ensures text { Writes result (check_text portfolio.now) (K.written out.old) (K.written out.new) }
-    ensures failed { result ≡ Err SinkStop → Rose (K.faults out.old) (K.faults out.new) }
+    ensures faults { K.faults out.new ≡ faults_after result (K.faults out.old) }
 {
     let names = portfolio.into_names()?;
     let mut line = Vec::new(alloc);
@@ -44,7 +42,7 @@ fn write_portfolio<K: Sink>(
 ) -> Result<(), Stop>
     requires names { names.now ≡ portfolio.now.names }
     ensures text { Writes result (check_text portfolio.now) (K.written out.old) (K.written out.new) }
-    ensures failed { result ≡ Err SinkStop → Rose (K.faults out.old) (K.faults out.new) }
+    ensures faults { K.faults out.new ≡ faults_after result (K.faults out.old) }
 {
     write_count(out, line, portfolio.named())?;
     write_contracts(out, line, portfolio, names)
@@ -54,8 +52,7 @@ fn write_portfolio<K: Sink>(
 #[tactic(auto, unfolding(crate::specs::Output::count_line))]
 fn write_count<K: Sink>(out: &mut K, line: &mut Vec<u8>, count: u32) -> Result<(), Stop>
     ensures text { Writes result (count_line count) (K.written out.old) (K.written out.new) }
-    ensures failed { result ≡ Err SinkStop → Rose (K.faults out.old) (K.faults out.new) }
-    ensures count { K.faults out.old ≤ K.faults out.new }
+    ensures faults { K.faults out.new ≡ faults_after result (K.faults out.old) }
 {
     let mut digits = Buffer::new();
     let count = digits.format(count);
@@ -72,8 +69,7 @@ fn write_contracts<K: Sink>(
     requires names { names.now ≡ portfolio.now.names }
     ensures text { Writes result (contracts_text portfolio.now 0 portfolio.now.contracts.terms portfolio.now.names.contracts portfolio.now.unused)
         (K.written out.old) (K.written out.new) }
-    ensures failed { result ≡ Err SinkStop → Rose (K.faults out.old) (K.faults out.new) }
-    ensures count { K.faults out.old ≤ K.faults out.new }
+    ensures faults { K.faults out.new ≡ faults_after result (K.faults out.old) }
 {
     for contract in 0..portfolio.named() {
         let id = contract_name(names, contract);
@@ -95,8 +91,7 @@ fn write_contract<K: Sink>(
 ) -> Result<(), Stop>
     ensures text { Writes result (contract_line id.now (type_name (type_of kind.now)) count ++ flat_map unused_line (map string_bytes unused.now))
         (K.written out.old) (K.written out.new) }
-    ensures failed { result ≡ Err SinkStop → Rose (K.faults out.old) (K.faults out.new) }
-    ensures count { K.faults out.old ≤ K.faults out.new }
+    ensures faults { K.faults out.new ≡ faults_after result (K.faults out.old) }
 {
     let kind = kind.contract_type().name();
     write_contract_line(out, line, id, kind.as_bytes(), count)?;
@@ -113,8 +108,7 @@ fn write_contract_line<'a, K: Sink>(
     count: u64,
 ) -> Result<(), Stop>
     ensures text { Writes result (contract_line id.now kind.now count) (K.written out.old) (K.written out.new) }
-    ensures failed { result ≡ Err SinkStop → Rose (K.faults out.old) (K.faults out.new) }
-    ensures count { K.faults out.old ≤ K.faults out.new }
+    ensures faults { K.faults out.new ≡ faults_after result (K.faults out.old) }
 {
     let mut digits = Buffer::new();
     let count = digits.format(count);
@@ -129,8 +123,7 @@ fn write_contract_line<'a, K: Sink>(
 /// Writes each name that isn't used.
 fn write_unused<K: Sink>(out: &mut K, line: &mut Vec<u8>, names: &[String]) -> Result<(), Stop>
     ensures text { Writes result (flat_map unused_line (map string_bytes names.now)) (K.written out.old) (K.written out.new) }
-    ensures failed { result ≡ Err SinkStop → Rose (K.faults out.old) (K.faults out.new) }
-    ensures count { K.faults out.old ≤ K.faults out.new }
+    ensures faults { K.faults out.new ≡ faults_after result (K.faults out.old) }
 {
     for name in names {
         write_unused_name(out, line, name.as_bytes())?;
@@ -142,8 +135,7 @@ fn write_unused<K: Sink>(out: &mut K, line: &mut Vec<u8>, names: &[String]) -> R
 #[tactic(auto, unfolding(crate::specs::Output::unused_line))]
 fn write_unused_name<K: Sink>(out: &mut K, line: &mut Vec<u8>, name: &[u8]) -> Result<(), Stop>
     ensures text { Writes result (unused_line name.now) (K.written out.old) (K.written out.new) }
-    ensures failed { result ≡ Err SinkStop → Rose (K.faults out.old) (K.faults out.new) }
-    ensures count { K.faults out.old ≤ K.faults out.new }
+    ensures faults { K.faults out.new ≡ faults_after result (K.faults out.old) }
 {
     write_words(out, line, b"unused", &[shown_name(name)])
 }
@@ -156,8 +148,7 @@ fn write_words<K: Sink>(
     others: &[&[u8]],
 ) -> Result<(), Stop>
     ensures text { Writes result (line_of word.now (map (λ w. w.now) others.now)) (K.written out.old) (K.written out.new) }
-    ensures failed { result ≡ Err SinkStop → Rose (K.faults out.old) (K.faults out.new) }
-    ensures count { K.faults out.old ≤ K.faults out.new }
+    ensures faults { K.faults out.new ≡ faults_after result (K.faults out.old) }
 {
     line.clear();
     push_line(line, word, others)?;

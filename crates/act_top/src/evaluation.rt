@@ -7,6 +7,7 @@ ghost use Rattle.act_top.specs.Ready.{AreAlone, AreOf, evaluation_outcome};
 use crate::halt::Halt;
 use crate::reading::Script;
 use crate::weight::check_weight;
+use act_model::Names;
 use act_portfolio::Portfolio;
 use std::alloc::Global;
 use std::marker::Model;
@@ -29,6 +30,13 @@ impl Model for Evaluation {
 }
 
 impl Evaluation {
+    /// The names that its lines are written with.
+    pub(crate) fn names(&self) -> &Names
+        ensures { result.now ≡ self.now.script.names }
+    {
+        &self.script.names
+    }
+
     /// The evaluation of a portfolio by its script, which is refused where its asks weigh too much.
     pub(crate) fn new(
         alloc: Global,

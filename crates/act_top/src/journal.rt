@@ -2,13 +2,11 @@
 ghost use Rattle.std.specs.Prelude.{◌≡◌, ◌≤◌, ◌<◌, not, true, ◌++◌, count_by, length, Err, IfOk};
 ghost use Rattle.std.specs.List.{All, flat_map};
 ghost use Rattle.std.specs.Option.{option_to_list};
-ghost use Rattle.act_io.specs.Faults.{Rose};
 ghost use Rattle.act_model.specs.declared.journal.Line.{Line as StepLine};
 ghost use Rattle.act_print.specs.Text.{item_text, journal_head_text};
 ghost use Rattle.act_model.specs.Journal.{appends_entry, is_append, is_known, book_of, entry_of};
 ghost use Rattle.act_top.specs.Output.{items_of};
-ghost use Rattle.act_top.specs.Written.{Writes};
-ghost use Rattle.act_top.specs.declared.writing.Stop.TheVariants.{Sink as SinkStop};
+ghost use Rattle.act_top.specs.Written.{Writes, faults_after};
 
 use crate::writing::{Stop, write_line};
 use act_book::{Book, BookFault};
@@ -20,73 +18,6 @@ use std::alloc::Global;
 
 /// The one caller of a script.
 pub(crate) const CALLER: u32 = 1;
-
-/// Writes the journal of a script: its head, and a line for each step. `line` is room for a line.
-pub(crate) fn write_journal<K: Sink>(
-    out: &mut K,
-    line: &mut Vec<u8>,
-    names: &Names,
-    lines: &[Line],
-) -> Result<(), Stop>
-    requires known { All (λ line. is_known names.now line.step ≡ true) lines.now }
-    ensures text { Writes result (journal_head_text (length (items_of lines.now)) ++ flat_map (item_text names.now) (items_of lines.now))
-        (K.written out.old) (K.written out.new) }
-    ensures failed { result ≡ Err SinkStop → Rose (K.faults out.old) (K.faults out.new) }
-    ensures count { K.faults out.old ≤ K.faults out.new }
-{
-    write_journal_head(out, line, lines.len())?;
-    write_items(out, line, names, lines)
-}
-
-/// Writes the line above a journal of so many items.
-fn write_journal_head<K: Sink>(out: &mut K, line: &mut Vec<u8>, count: usize) -> Result<(), Stop>
-    ensures text { Writes result (journal_head_text count) (K.written out.old) (K.written out.new) }
-    ensures failed { result ≡ Err SinkStop → Rose (K.faults out.old) (K.faults out.new) }
-    ensures count { K.faults out.old ≤ K.faults out.new }
-{
-    line.clear();
-    journal_head(count, line)?;
-    write_line(out, line)
-}
-
-/// Writes a line for each step of a script.
-fn write_items<K: Sink>(
-    out: &mut K,
-    line: &mut Vec<u8>,
-    names: &Names,
-    lines: &[Line],
-) -> Result<(), Stop>
-    requires known { All (λ line. is_known names.now line.step ≡ true) lines.now }
-    ensures text { Writes result (flat_map (item_text names.now) (items_of lines.now)) (K.written out.old) (K.written out.new) }
-    ensures failed { result ≡ Err SinkStop → Rose (K.faults out.old) (K.faults out.new) }
-    ensures count { K.faults out.old ≤ K.faults out.new }
-{
-    for step in lines {
-        write_item(out, line, names, step.step)?;
-    }
-    Ok(())
-}
-
-/// Writes the line of a step.
-fn write_item<K: Sink>(
-    out: &mut K,
-    line: &mut Vec<u8>,
-    names: &Names,
-    step: Step,
-) -> Result<(), Stop>
-    requires known { is_known names.now step ≡ true }
-    ensures text { Writes result (item_text names.now (record { caller = CALLER; step = step })) (K.written out.old) (K.written out.new) }
-    ensures failed { result ≡ Err SinkStop → Rose (K.faults out.old) (K.faults out.new) }
-    ensures count { K.faults out.old ≤ K.faults out.new }
-{
-    let item = Item {
-        caller: CALLER,
-        step,
-    };
-    line.clear();
-    item_line(names, &item, line)?;
-    write_line(out, line)
-}
 
 /// The book of a script: the entries that its steps append.
 pub(crate) fn book_of(alloc: Global, lines: &[Line]) -> Result<Book, NoMemory>

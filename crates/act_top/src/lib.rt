@@ -2,16 +2,16 @@
 #![tactic(auto)]
 
 mod answers;
-mod block;
 mod check;
 mod command;
 mod evaluation;
 mod halt;
+mod job;
 mod journal;
 mod line;
 mod reading;
-mod task;
 mod top;
+mod transcript;
 mod weight;
 mod writing;
 

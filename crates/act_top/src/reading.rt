@@ -1,10 +1,9 @@
 //! Reading the files of a command.
 ghost use Rattle.std.specs.Prelude.{◌≡◌, ◌≤◌, ℕ, List, length, Err, IfErr, IfOk, IfSome, Option, option_map, ⊤, vec_len};
-ghost use Rattle.act_io.specs.Faults.{Rose};
-ghost use Rattle.act_io.specs.Fetch.{names_after};
-ghost use Rattle.act_io.specs.declared.files.FetchFault.TheVariants.{Failed, TooLong as TooLongFault};
-ghost use Rattle.act_top.specs.Halts.{AsksFile, AsksScript, OnUnread, Reads, ReadsBytes, RefusesOnly, refusal_of};
-ghost use Rattle.act_top.specs.Output.{ask_for_all, long_outcome, portfolio_accepted, portfolio_read, portfolio_refused, script_accepted, script_fault, script_read, script_refused, script_told};
+ghost use Rattle.act_io.specs.Fetch.{fetch_faults, names_after};
+ghost use Rattle.act_io.specs.declared.files.FetchFault.TheVariants.{TooLong as TooLongFault};
+ghost use Rattle.act_top.specs.Halts.{AsksFile, AsksScript, Reads, ReadsBytes, RefusesOnly, read_faults, refusal_of};
+ghost use Rattle.act_top.specs.Output.{ask_for_all, long_outcome, portfolio_accepted, portfolio_read, portfolio_refused, read_outcome, script_accepted, script_fault, script_read, script_refused, script_told};
 ghost use Rattle.act_top.specs.Ready.{AreAlone, AreOf};
 
 use crate::halt::Halt;
@@ -42,8 +41,7 @@ pub(crate) fn read_portfolio<F: Files>(
 ) -> Result<Portfolio, Halt>
     ensures told { IfSome (F.content files.old name.now) (λ bytes. Reads (portfolio_read name.now bytes) result) }
     ensures alone { IfOk result (λ portfolio. AreAlone portfolio) }
-    ensures failed { OnUnread result (Rose (F.faults files.old) (F.faults files.new)) }
-    ensures count { F.faults files.old ≤ F.faults files.new }
+    ensures faults { F.faults files.new ≡ read_faults result (F.faults files.old) }
     ensures asked { AsksFile ⊤ ⊥ name.now result (F.asked files.old) (F.asked files.new) }
     ensures same { (other : List ℕ) → F.content files.new other ≡ F.content files.old other }
 {
@@ -60,8 +58,7 @@ pub(crate) fn script_of<F: Files>(
 ) -> Result<Script, Halt>
     ensures told { IfSome (script_told (F.content files.old) portfolio.now (option_map (λ s. s.now) name.entry)) (λ script. Reads script result) }
     ensures lines { IfOk result (λ script. AreOf portfolio.now script) }
-    ensures failed { OnUnread result (Rose (F.faults files.old) (F.faults files.new)) }
-    ensures count { F.faults files.old ≤ F.faults files.new }
+    ensures faults { F.faults files.new ≡ read_faults result (F.faults files.old) }
     ensures asked { AsksScript (option_map (λ s. s.now) name.entry) result (F.asked files.old) (F.asked files.new) }
 {
     match name {
@@ -79,8 +76,7 @@ fn read_lines<F: Files>(
 ) -> Result<Script, Halt>
     ensures told { IfSome (F.content files.old name.now) (λ bytes. Reads (script_read portfolio.now name.now bytes) result) }
     ensures lines { IfOk result (λ script. AreOf portfolio.now script) }
-    ensures failed { OnUnread result (Rose (F.faults files.old) (F.faults files.new)) }
-    ensures count { F.faults files.old ≤ F.faults files.new }
+    ensures faults { F.faults files.new ≡ read_faults result (F.faults files.old) }
     ensures asked { AsksFile ⊥ ⊤ name.now result (F.asked files.old) (F.asked files.new) }
 {
     let bytes = fetch(alloc, files, name)?;
@@ -108,32 +104,32 @@ fn ask_for_all(alloc: Global, portfolio: &Portfolio) -> Result<Script, Halt>
     })
 }
 
-/// The bytes of the file of that name.
+/// The bytes of the file of that name. The line that tells a fault of reading is made first, so that one is told.
 fn fetch<F: Files>(alloc: Global, files: &mut F, name: &str) -> Result<Vec<u8>, Halt>
     ensures told { IfSome (F.content files.old name.now) (λ bytes. ReadsBytes name.now bytes result) }
     ensures within { IfOk result (λ bytes. vec_len bytes ≤ MOST_BYTES) }
-    ensures failed { OnUnread result (Rose (F.faults files.old) (F.faults files.new)) }
-    ensures count { F.faults files.old ≤ F.faults files.new }
+    ensures faults { F.faults files.new ≡ read_faults result (F.faults files.old) }
     ensures asked { AsksFile ⊥ ⊥ name.now result (F.asked files.old) (F.asked files.new) }
     ensures same { (other : List ℕ) → F.content files.new other ≡ F.content files.old other }
 {
+    let Ok(unread) = line_of(alloc, b"read", &[name.as_bytes()]) else {
+        return Err(Halt::Memory);
+    };
     match files.fetch(alloc, name, MOST_BYTES) {
         Ok(bytes) => Ok(bytes),
-        Err(fault) => Err(fetch_halt(alloc, name, fault)),
+        Err(fault) => Err(fetch_halt(alloc, name, fault, unread)),
     }
 }
 
-/// The halt of a file's fault.
-fn fetch_halt(alloc: Global, name: &str, fault: FetchFault) -> Halt
+/// The halt of a file's fault, with the line of one that wasn't read.
+fn fetch_halt(alloc: Global, name: &str, fault: FetchFault, unread: Vec<u8>) -> Halt
+    requires { unread.items ≡ (read_outcome name.now).text }
     ensures told { IfSome (refusal_of result) (λ outcome. (fault ≡ TooLongFault) × (outcome ≡ long_outcome name.now)) }
-    ensures failed { OnUnread {A = List ℕ} (Err result) (fault ≡ Failed) }
+    ensures faults { (before : ℕ) → read_faults {A = List ℕ} (Err result) before ≡ fetch_faults (Err fault) before }
     ensures asked { (earlier : Option (List (List ℕ))) → AsksFile {A = List ℕ} ⊥ ⊥ name.now (Err result) earlier (names_after (Err fault) earlier name.now) }
 {
     match fault {
-        FetchFault::Failed => match line_of(alloc, b"read", &[name.as_bytes()]) {
-            Ok(line) => Halt::Unread(line),
-            Err(_) => Halt::Memory,
-        },
+        FetchFault::Failed => Halt::Unread(unread),
         FetchFault::TooLong => match line_of(alloc, b"long", &[name.as_bytes()]) {
             Ok(line) => Halt::TooLong(line),
             Err(_) => Halt::Memory,

@@ -1,47 +1,66 @@
 //! The commands.
-ghost use Rattle.std.specs.Prelude.{◌≡◌, ◌⊎◌, if◌then◌else◌, None, Some, Err, IfOk, IfSome, IsSomeAnd, map, string_bytes};
+ghost use Rattle.std.specs.Prelude.{◌≡◌, ◌≢◌, ◌+◌, ◌⊎◌, if◌then◌else◌, None, Some, Err, IfOk, IfSome, IsSomeAnd, map, string_bytes};
 ghost use Rattle.act_io.specs.Faults.{Rose};
 ghost use Rattle.act_io.specs.Put.{written_after};
 ghost use Rattle.act_top.specs.Asked.{AsksFor, AsksNoScript};
 ghost use Rattle.act_top.specs.Command.{command_of};
 ghost use Rattle.act_top.specs.Halts.{halt_outcome};
-ghost use Rattle.act_top.specs.Output.{EndsAs, outcome_of, read_outcome, status_of, words_outcome};
-ghost use Rattle.act_top.specs.Tasks.{task_outcome};
-ghost use Rattle.act_top.specs.Written.{IsPart, IsProperPart, Writes, WritesPart};
-ghost use Rattle.act_top.specs.declared.top.Status.TheVariants.{NoMemory, ReadFault, Words, WriteFault};
+ghost use Rattle.act_top.specs.Output.{EndsAs, outcome_of, read_outcome, status_number, status_of, words_outcome};
+ghost use Rattle.act_top.specs.Jobs.{job_outcome};
+ghost use Rattle.act_top.specs.Written.{IsPart, IsProperPart, Writes, WritesPart, faults_after};
+ghost use Rattle.act_top.specs.declared.top.Status.TheVariants.{Done, NoMemory, ReadFault, Unfinished, Words, WriteFault};
 ghost use Rattle.act_top.specs.declared.writing.Stop.TheVariants.{Sink as SinkStop, Memory as MemoryStop};
 
 use crate::check::write_check;
 use crate::command::Command;
 use crate::halt::Halt;
-use crate::task::{Task, task_of};
+use crate::job::{Job, job_of};
 use crate::writing::{Stop, write_line};
 use act_io::{Files, Sink};
 use act_num::Steps;
 use std::alloc::Global;
 use std::sync::ledger::Ledger;
 
-/// How a command ended. Its number is the program's exit status.
+/// How a command ended.
 #[derive(Clone, Copy, Debug, PartialEq, Eq)]
 pub enum Status {
     /// All was accepted, and the whole text was written; each block in it ends in `end`.
-    Done = 0,
+    Done,
     /// The words are of no command's form.
-    Words = 2,
+    Words,
     /// A file wasn't read.
-    ReadFault = 3,
+    ReadFault,
     /// A file is longer than 64 MiB.
-    TooLong = 4,
+    TooLong,
     /// The portfolio was refused.
-    PortfolioRefused = 5,
+    PortfolioRefused,
     /// A script was refused.
-    ScriptRefused = 6,
+    ScriptRefused,
     /// The sink failed; what was written is a part of the text or of the refusal line, and not all of it.
-    WriteFault = 7,
+    WriteFault,
     /// The whole text was written, and a block in it ends in `missing` or `overflow`.
-    Unfinished = 8,
+    Unfinished,
     /// Memory ran out; what was written is a part of the text or of the refusal line.
-    NoMemory = 9,
+    NoMemory,
+}
+
+impl Status {
+    /// Its number, the program's exit status.
+    pub fn number(self) -> u8
+        ensures { result ≡ status_number self }
+    {
+        match self {
+            Status::Done => 0,
+            Status::Words => 2,
+            Status::ReadFault => 3,
+            Status::TooLong => 4,
+            Status::PortfolioRefused => 5,
+            Status::ScriptRefused => 6,
+            Status::WriteFault => 7,
+            Status::Unfinished => 8,
+            Status::NoMemory => 9,
+        }
+    }
 }
 
 /// What is written where the words are of no command's form.
@@ -65,17 +84,23 @@ pub fn eval_top<F: Files, K: Sink, L: Ledger>(
     ensures other_words { command_of (map string_bytes words.now) ≡ None →
         EndsAs words_outcome result (K.written out.old) (K.written out.new) }
     ensures read_fault { result ≡ ReadFault → Rose (F.faults files.old) (F.faults files.new) }
+    ensures no_read_fault { result ≢ ReadFault → result ≢ WriteFault → result ≢ NoMemory → F.faults files.new ≡ F.faults files.old }
     ensures read_line { result ≡ ReadFault → IsSomeAnd (command_of (map string_bytes words.now)) (λ command.
         (K.written out.new ≡ written_after (K.written out.old) (read_outcome command.portfolio).text)
         ⊎ IsSomeAnd command.script (λ script. K.written out.new ≡ written_after (K.written out.old) (read_outcome script).text)) }
     ensures asked { AsksFor (command_of (map string_bytes words.now)) result
         (F.asked files.old) (F.asked files.new) (K.written out.old) (K.written out.new) }
 
+    // The counter ticks once for each row that is calculated for the text.
+    ensures ticks { (result ≡ Done) ⊎ (result ≡ Unfinished) →
+        IfSome (outcome_of (F.content files.old) (command_of (map string_bytes words.now))) (λ wanted. steps.new ≡ steps.old + wanted.rows) }
+
     // Where the portfolio is refused, no script was asked for, whatever the status.
     ensures alone { IfSome (command_of (map string_bytes words.now)) (λ command.
         AsksNoScript (F.content files.old) command (F.asked files.old) (F.asked files.new)) }
 
     ensures write_fault { result ≡ WriteFault → Rose (K.faults out.old) (K.faults out.new) }
+    ensures no_write_fault { result ≢ WriteFault → K.faults out.new ≡ K.faults out.old }
 
     // Where writing failed, what was written is a part of the wanted text and not all of it, or, where reading failed, of
     // the line that names the last file asked for.
@@ -101,10 +126,10 @@ pub fn eval_top<F: Files, K: Sink, L: Ledger>(
     let Some(command) = Command::of(words) else {
         return status_of(refuse_words(out));
     };
-    match task_of(alloc, files, &command) {
-        Ok(task) => {
-            let status = status_of(write_task(alloc, out, &task, steps));
-            drop(task);
+    match job_of(alloc, files, command) {
+        Ok(job) => {
+            let status = status_of(write_job(alloc, out, &job, steps));
+            drop(job);
             status
         }
         Err(halt) => status_of(write_halt(out, &halt)),
@@ -126,29 +151,30 @@ fn status_of(written: Result<Status, Stop>) -> Status
 fn refuse_words<K: Sink>(out: &mut K) -> Result<Status, Stop>
     ensures status { IfOk result (λ status. status ≡ words_outcome.status) }
     ensures text { Writes result words_outcome.text (K.written out.old) (K.written out.new) }
-    ensures failed { result ≡ Err SinkStop → Rose (K.faults out.old) (K.faults out.new) }
+    ensures faults { K.faults out.new ≡ faults_after result (K.faults out.old) }
 {
     write_line(out, USAGE)?;
     Ok(Status::Words)
 }
 
 /// Writes what is to be written, and answers the status that it ends with.
-fn write_task<K: Sink, L: Ledger>(
+fn write_job<K: Sink, L: Ledger>(
     alloc: Global,
     out: &mut K,
-    task: &Task,
+    job: &Job,
     steps: &mut Steps<L>,
 ) -> Result<Status, Stop>
-    ensures status { IfOk result (λ status. status ≡ (task_outcome task.now).status) }
-    ensures text { Writes result (task_outcome task.now).text (K.written out.old) (K.written out.new) }
-    ensures failed { result ≡ Err SinkStop → Rose (K.faults out.old) (K.faults out.new) }
+    ensures status { IfOk result (λ status. status ≡ (job_outcome job.now).status) }
+    ensures text { Writes result (job_outcome job.now).text (K.written out.old) (K.written out.new) }
+    ensures ticked { IfOk result (λ _. steps.new ≡ steps.old + (job_outcome job.now).rows) }
+    ensures faults { K.faults out.new ≡ faults_after result (K.faults out.old) }
 {
-    match task {
-        Task::Check(portfolio) => {
+    match job {
+        Job::Check(portfolio) => {
             write_check(alloc, out, portfolio)?;
             Ok(Status::Done)
         }
-        Task::Evaluate(evaluation) => {
+        Job::Evaluate(evaluation) => {
             let ended = evaluation.write(alloc, out, steps)?;
             Ok(answers_status(ended))
         }
@@ -171,7 +197,7 @@ fn write_halt<K: Sink>(out: &mut K, halt: &Halt) -> Result<Status, Stop>
     ensures status { IfOk result (λ status. status ≡ (halt_outcome halt.now).status) }
     ensures text { Writes result (halt_outcome halt.now).text (K.written out.old) (K.written out.new) }
     ensures memory { halt.now ≡ Halt.Memory → result ≡ Err MemoryStop }
-    ensures failed { result ≡ Err SinkStop → Rose (K.faults out.old) (K.faults out.new) }
+    ensures faults { K.faults out.new ≡ faults_after result (K.faults out.old) }
 {
     let (status, line) = match halt {
         Halt::Unread(line) => (Status::ReadFault, line),

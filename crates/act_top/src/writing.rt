@@ -1,8 +1,7 @@
 //! Writing lines.
 ghost use Rattle.std.specs.Prelude.{◌≡◌, ◌≤◌, Err};
-ghost use Rattle.act_io.specs.Faults.{Rose};
 ghost use Rattle.act_io.specs.declared.sink.PutFault.TheVariants.{Failed};
-ghost use Rattle.act_top.specs.Written.{Writes};
+ghost use Rattle.act_top.specs.Written.{Writes, faults_after};
 ghost use Rattle.act_top.specs.declared.writing.Stop.TheVariants.{Sink as SinkStop, Memory};
 
 use act_io::{PutFault, Sink};
@@ -39,8 +38,7 @@ impl From<NoMemory> for Stop {
 /// Writes a line whole, or stops at a fault.
 pub(crate) fn write_line<K: Sink>(out: &mut K, line: &[u8]) -> Result<(), Stop>
     ensures text { Writes result line.now (K.written out.old) (K.written out.new) }
-    ensures failed { result ≡ Err SinkStop → Rose (K.faults out.old) (K.faults out.new) }
-    ensures count { K.faults out.old ≤ K.faults out.new }
+    ensures faults { K.faults out.new ≡ faults_after result (K.faults out.old) }
 {
     let mut done = 0;
     'pieces: while done < line.len() {

@@ -153,7 +153,7 @@ fn status_told(told: &mut Told, call: &str, status: Status, text: &[u8]) {
             return rows_told(told, rows, call == "rates");
         }
     }
-    told.value(status as u8);
+    told.value(status.number());
     if call == "eval" {
         told.lines(text.strip_prefix(HEAD).unwrap_or(text));
     } else {

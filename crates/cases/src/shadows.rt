@@ -167,8 +167,8 @@ fn run_told(told: &mut Told, run: &Run) {
 /// Adds the lines of a run.
 fn push_lines(names: &mut Names, run: &Run, lines: &mut Vec<u8>) -> Result<(), NoMemory> {
     add(names, "currency", "0").ok_or(NoMemory)?;
-    for row in &run.rows {
-        row_line(names, row, lines)?;
+    for place in 0..run.rows.count() {
+        row_line(names, run.rows.row(place), lines)?;
     }
     close_line(names, &run.close, lines)
 }

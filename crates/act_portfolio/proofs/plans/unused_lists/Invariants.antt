@@ -1,8 +1,9 @@
-use Rattle.std.proofs.Common.{◌≡◌, map, string_bytes, take}
+use Rattle.std.proofs.Common.{drop, map, string_bytes}
 use Rattle.serde_json.specs.View.{view}
-use Rattle.act_terms.specs.Used.{unused_names}
+use Rattle.act_portfolio.specs.Reading.{unused_lists}
+use Rattle.act_portfolio.proofs.UnusedSoFar.{IsListedTo}
 use Rattle.act_portfolio.proofs.plans.unused_lists.Given as goal
 
-abbrev pub invariant-loop-contract : goal.invariant-loop-contract
-invariant-loop-contract l =
-    map (λ u. map string_bytes u.items) l.lists.items ≡ map unused_names (map view (take l.contract-index l.contracts))
+abbrev pub invariant-loop-place : goal.invariant-loop-place
+invariant-loop-place l =
+    IsListedTo (drop l.place l.named) (map view (drop l.place l.contracts)) (map (λ u. map string_bytes u.items) l.lists.items) (unused_lists l.named (map view l.contracts))

@@ -31,7 +31,7 @@ returns-clause-accepted c =
     let few = c.in_ok-plans.ensures.few_contracts in
     let names = rw c.deref.ensures.value at c.in_ok-plans.ensures.names in
     let planned = rw c.deref.ensures.value at c.in_ok-plans.ensures.plans in
-    whole (map view c.args.contracts.now) c.in_ok-named.named.items _ _ _ _ _ c.in_ok-named.ensures.read (omega (arith, length-map c.args.contracts.now view)) names c.in_ok-terms.ensures planned c.in_ok-unused.ensures
+    whole (map view c.args.contracts.now) c.in_ok-named.named.items _ _ _ _ _ _ c.in_ok-named.ensures.read (omega (arith, length-map c.args.contracts.now view)) names c.in_ok-terms.ensures planned (rw c.deref-3.ensures.value at c.in_ok-children.ensures) (rw c.deref-2.ensures.value at c.in_ok-unused.ensures)
 
 pub returns-clause-holds : goal.returns-clause-holds
 returns-clause-holds c =
@@ -39,5 +39,9 @@ returns-clause-holds c =
     let names = rw c.deref.ensures.value at c.in_ok-plans.ensures.names in
     let planned = rw c.deref.ensures.value at c.in_ok-plans.ensures.plans in
     let read = c.in_ok-named.ensures in
-    holds (map view c.args.contracts.now) c.in_ok-named.named.items _ _ _ _ _ read.read (omega (arith, length-map c.args.contracts.now view)) names c.in_ok-terms.ensures planned c.in_ok-unused.ensures read.contracts
-    (omega (arith, read.few_codes, length-map c.args.contracts.now view)) (omega (arith, read.few_currencies, length-map c.args.contracts.now view))
+    holds (map view c.args.contracts.now) c.in_ok-named.named.items _ _ _ _ _ _ read.read (omega (arith, length-map c.args.contracts.now view)) names c.in_ok-terms.ensures planned (rw c.deref-3.ensures.value at c.in_ok-children.ensures) (rw c.deref-2.ensures.value at c.in_ok-unused.ensures) read.contracts
+
+pub unused_lists-requires : goal.unused_lists-requires
+unused_lists-requires c =
+    let many = as_many_read (map view c.args.contracts.now) zero no_names _ _ c.in_ok-named.ensures.read in
+    record { all = rw c.deref-2.ensures.value (omega (arith, length-map c.args.contracts.now view)) }

@@ -10,8 +10,8 @@ returns-in-Err-clause-run g c =
 
 pub events-preserved : goal.events-preserved
 events-preserved g c = record {
-  taken = rw c.in_ok-push-in-Ok.ensures.items (taken_one _ _ _ _ _ c.events.state c.events.event-index c.event-item.result c.in-Ok.row c.events.invariant.taken c.events-test.true c.event-item.is (sym c.next_row.ensures.value ∙ c.in-Ok.is));
-  ticked = rw c.in_ok-push-in-Ok.ensures.items (omega (arith, length_push c.events.rows.items c.in-Ok.row, c.in-Ok.ensures.ticked));
+  taken = rw c.in_ok-push-in-Ok.ensures.added (taken_one _ _ _ _ _ c.events.state c.events.event-index c.event-item.result c.in-Ok.row c.events.invariant.taken c.events-test.true c.event-item.is (sym c.next_row.ensures.value ∙ c.in-Ok.is));
+  ticked = rw c.in_ok-push-in-Ok.ensures.added (omega (arith, length_push c.events.rows c.in-Ok.row, c.in-Ok.ensures.ticked));
 }
 
 pub returns-clause-run : goal.returns-clause-run

@@ -5,6 +5,6 @@ use Rattle.act_run.proofs.rows.rows_from.Given as goal
 
 abbrev pub invariant-events : goal.invariant-events
 invariant-events g l = record {
-  taken : HasTaken (step_of l.terms l.plan (g.O.Observed.entries l.seen) []) (currency_of l.terms []) l.fn.first l.events l.rows.items l.state l.event-index;
-  ticked : l.steps ≡ l.fn.steps + length l.rows.items;
+  taken : HasTaken (step_of l.terms l.plan (g.O.Observed.entries l.seen) []) (currency_of l.terms []) l.fn.first l.events l.rows l.state l.event-index;
+  ticked : l.steps ≡ l.fn.steps + length l.rows;
 }

@@ -1,6 +1,5 @@
 use Rattle.std.proofs.Common.{◌≡◌, Ok, Err, rules, refl, ap, string_bytes}
 use Rattle.act_terms.specs.Names.{currencies_of}
-use Rattle.act_terms.proofs.Room.{currency_added, grew_on, none_added}
 use Rattle.act_terms.proofs.WithoutWant.{needed_text, optional_fault, optional_text}
 use Rattle.act_terms.proofs.currencies.read_currencies.Goals as goal
 
@@ -36,6 +35,3 @@ returns-clause-read c =
       ← c.in_ok-intern_currency-in-None.ensures.number,
       ← c.in_ok-intern_currency-in-None.ensures.names,
     ) refl
-
-pub returns-clause-grew : goal.returns-clause-grew
-returns-clause-grew c = grew_on 1 1 0 1 _ _ _ (none_added 1 1 _) (currency_added _ _ _ c.in_ok-intern_currency-in-None.ensures.names)

@@ -2,7 +2,7 @@ use Rattle.std.proofs.Common.{◌∙◌, rules, tests}
 use Rattle.std.proofs.lemmas.Iterator.{YieldsList-from_slice}
 use Rattle.std.proofs.lemmas.Iterator.Search.{any_from_yields_List}
 use Rattle.std.specs.Str.{bytes_eq}
-use Rattle.act_terms.proofs.PamTerms.{list_any-map}
+use Rattle.act_terms.proofs.TermNames.{list_any-map}
 use Rattle.act_terms.proofs.used.is_among.Goals as goal
 
 pub returns : goal.returns

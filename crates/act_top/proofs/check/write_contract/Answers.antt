@@ -1,7 +1,7 @@
 use Rattle.std.proofs.Common.{map, string_bytes}
 use Rattle.std.specs.List.{flat_map}
 use Rattle.act_top.specs.Output.{unused_line}
-use Rattle.act_top.proofs.Texts.{failed-on, rose-behind, writes-behind, writes-first}
+use Rattle.act_top.proofs.Texts.{writes-behind, writes-first}
 use Rattle.act_top.proofs.check.write_contract.Goals as goal
 
 pub returns-in_err-write_contract_line-clause-text : goal.returns-in_err-write_contract_line-clause-text
@@ -10,9 +10,3 @@ returns-in_err-write_contract_line-clause-text g c =
 
 pub returns-clause-text : goal.returns-clause-text
 returns-clause-text g c = writes-behind c.write_unused.result _ _ _ _ _ (rw (c.as_bytes.ensures.value, c.name-kind.ensures, c.contract_type.ensures) at c.in_ok-write_contract_line.ensures.text) c.write_unused.ensures.text
-
-pub returns-in_err-write_contract_line-clause-failed : goal.returns-in_err-write_contract_line-clause-failed
-returns-in_err-write_contract_line-clause-failed g c = failed-on (Unit {0}) c.from_residual.result c.in_err-write_contract_line.field-0.0 _ c.from_residual.ensures.1 c.in_err-write_contract_line.ensures.failed
-
-pub returns-clause-failed : goal.returns-clause-failed
-returns-clause-failed g c is = rose-behind _ _ _ c.in_ok-write_contract_line.ensures.count (c.write_unused.ensures.failed is)

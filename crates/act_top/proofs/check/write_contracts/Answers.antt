@@ -1,9 +1,9 @@
-use Rattle.std.proofs.Common.{◌<◌, Some, arith, length, ap, ◌∙◌}
+use Rattle.std.proofs.Common.{refl, ◌<◌, Some, arith, length, ap, ◌∙◌}
 use Rattle.act_model.specs.Names.{NameLists}
 use Rattle.act_model.specs.declared.terms.Terms.{Terms}
 use Rattle.act_text.specs.Lines.{name_of}
 use Rattle.act_top.proofs.Contracts.{at-place, contracts-next, contracts-past, name-at}
-use Rattle.act_top.proofs.Texts.{failed-on, left-all, left-next, left-none, left-part, never-failed, rose-behind, writes-part}
+use Rattle.act_top.proofs.Texts.{left-all, left-next, left-none, left-part, writes-part}
 use Rattle.act_top.proofs.check.write_contracts.Goals as goal
 
 pub returns-in_err-write_contract-clause-text : goal.returns-in_err-write_contract-clause-text
@@ -24,7 +24,7 @@ loop-contract-preserved g c =
     let here = contracts-next p i _ _ _ _ _ of (name-at p.names.contracts i within) c.unused.ensures (c.contract_name-id.ensures.text ∙ ap (λ (names : NameLists). name_of names.contracts i) c.requires.names) c.scheduled_count-count.ensures.count in
     record {
       text = left-next _ _ _ _ _ _ _ c.loop-contract.invariant.text here c.in_ok-write_contract.ensures.text;
-      count = omega (arith, c.in_ok-write_contract.ensures.count);
+      faults = c.in_ok-write_contract.ensures.faults ∙ c.loop-contract.invariant.faults;
     }
 
 pub returns-clause-text : goal.returns-clause-text
@@ -32,10 +32,4 @@ returns-clause-text g c =
     left-none _ _ _ _ c.loop-contract.invariant.text (contracts-past c.args.portfolio.now c.loop-contract.contract _ _ (omega (arith, c.named-contract-end.ensures.terms)))
 
 pub loop-contract-init : goal.loop-contract-init
-loop-contract-init g c = record { text = left-all _ _; count = omega arith }
-
-pub returns-in_err-write_contract-clause-failed : goal.returns-in_err-write_contract-clause-failed
-returns-in_err-write_contract-clause-failed g c = failed-on (Unit {0}) c.from_residual.result c.in_err-write_contract.field-0.0 _ c.from_residual.ensures.1 (λ is. rose-behind _ _ _ c.loop-contract.invariant.count (c.in_err-write_contract.ensures.failed is))
-
-pub returns-clause-failed : goal.returns-clause-failed
-returns-clause-failed g c = never-failed _ _
+loop-contract-init g c = record { text = left-all _ _; faults = refl }

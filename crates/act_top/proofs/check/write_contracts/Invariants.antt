@@ -1,4 +1,4 @@
-use Rattle.std.proofs.Common.{◌≤◌, drop}
+use Rattle.std.proofs.Common.{◌≡◌, ◌≤◌, drop}
 use Rattle.act_top.specs.Output.{contracts_text}
 use Rattle.act_top.proofs.Texts.{Left}
 use Rattle.act_top.proofs.check.write_contracts.Given as goal
@@ -9,5 +9,5 @@ invariant-loop-contract g l = record {
   text : Left (contracts_text l.portfolio 0 l.portfolio.contracts.terms l.portfolio.names.contracts l.portfolio.unused)
       (contracts_text l.portfolio l.contract (drop l.contract l.portfolio.contracts.terms) (drop l.contract l.portfolio.names.contracts) (drop l.contract l.portfolio.unused))
       (g.K.Sink.written l.fn.out) (g.K.Sink.written l.out);
-  count : g.K.Sink.faults l.fn.out ≤ g.K.Sink.faults l.out;
+  faults : g.K.Sink.faults l.out ≡ g.K.Sink.faults l.fn.out;
 }

@@ -1,4 +1,4 @@
-use Rattle.act_top.proofs.Texts.{failed-on, rose-behind, writes-behind, writes-first}
+use Rattle.act_top.proofs.Texts.{writes-behind, writes-first}
 use Rattle.act_top.proofs.check.write_portfolio.Goals as goal
 
 pub returns-in_err-write_count-clause-text : goal.returns-in_err-write_count-clause-text
@@ -7,9 +7,3 @@ returns-in_err-write_count-clause-text g c =
 
 pub returns-clause-text : goal.returns-clause-text
 returns-clause-text g c = rw (← c.named.ensures.named) (writes-behind c.write_contracts.result _ _ _ _ _ c.in_ok-write_count.ensures.text c.write_contracts.ensures.text)
-
-pub returns-in_err-write_count-clause-failed : goal.returns-in_err-write_count-clause-failed
-returns-in_err-write_count-clause-failed g c = failed-on (Unit {0}) c.from_residual.result c.in_err-write_count.field-0.0 _ c.from_residual.ensures.1 c.in_err-write_count.ensures.failed
-
-pub returns-clause-failed : goal.returns-clause-failed
-returns-clause-failed g c is = rose-behind _ _ _ c.in_ok-write_count.ensures.count (c.write_contracts.ensures.failed is)

@@ -1,8 +1,8 @@
-use Rattle.std.proofs.Common.{ap, arith, List, map, string_bytes, Global}
+use Rattle.std.proofs.Common.{refl, ◌∙◌, ap, arith, List, map, string_bytes, Global}
 use Rattle.std.specs.List.{flat_map}
 use Rattle.std.specs.declared.string.String.{String}
 use Rattle.act_top.specs.Output.{unused_line}
-use Rattle.act_top.proofs.Texts.{drop-past, failed-on, from-next, left-all, left-next, left-none, left-part, never-failed, rose-behind, writes-part}
+use Rattle.act_top.proofs.Texts.{drop-past, from-next, left-all, left-next, left-none, left-part, writes-part}
 use Rattle.act_top.proofs.check.write_unused.Goals as goal
 
 pub returns-in_err-write_unused_name-clause-text : goal.returns-in_err-write_unused_name-clause-text
@@ -13,18 +13,12 @@ returns-in_err-write_unused_name-clause-text g c =
 pub loop-name-preserved : goal.loop-name-preserved
 loop-name-preserved g c =
     let here = from-next (λ (names : List (String Global)). flat_map unused_line (map string_bytes names)) c.args.names.now c.loop-name.name-index c.name-item.result c.loop-name-test.true c.name-item.is in
-    record { text = left-next _ _ _ _ _ _ _ c.loop-name.invariant.text here (rw c.as_bytes.ensures.value at c.in_ok-write_unused_name.ensures.text); count = omega (arith, c.in_ok-write_unused_name.ensures.count) }
+    record { text = left-next _ _ _ _ _ _ _ c.loop-name.invariant.text here (rw c.as_bytes.ensures.value at c.in_ok-write_unused_name.ensures.text); faults = c.in_ok-write_unused_name.ensures.faults ∙ c.loop-name.invariant.faults }
 
 pub loop-name-init : goal.loop-name-init
-loop-name-init g c = record { text = left-all _ _; count = omega arith }
+loop-name-init g c = record { text = left-all _ _; faults = refl }
 
 pub returns-clause-text : goal.returns-clause-text
 returns-clause-text g c =
     left-none _ _ _ _ c.loop-name.invariant.text
     (ap (λ (names : List (String Global)). flat_map unused_line (map string_bytes names)) (drop-past c.args.names.now c.loop-name.name-index c.loop-name-test.false))
-
-pub returns-in_err-write_unused_name-clause-failed : goal.returns-in_err-write_unused_name-clause-failed
-returns-in_err-write_unused_name-clause-failed g c = failed-on (Unit {0}) c.from_residual.result c.in_err-write_unused_name.field-0.0 _ c.from_residual.ensures.1 (λ is. rose-behind _ _ _ c.loop-name.invariant.count (c.in_err-write_unused_name.ensures.failed is))
-
-pub returns-clause-failed : goal.returns-clause-failed
-returns-clause-failed g c = never-failed _ _

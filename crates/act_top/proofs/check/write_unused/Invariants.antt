@@ -1,4 +1,4 @@
-use Rattle.std.proofs.Common.{◌≤◌, drop, map, string_bytes}
+use Rattle.std.proofs.Common.{◌≡◌, ◌≤◌, drop, map, string_bytes}
 use Rattle.std.specs.List.{flat_map}
 use Rattle.act_top.specs.Output.{unused_line}
 use Rattle.act_top.proofs.Texts.{Left}
@@ -8,5 +8,5 @@ use Rattle.act_top.proofs.check.write_unused.Given as goal
 abbrev pub invariant-loop-name : goal.invariant-loop-name
 invariant-loop-name g l = record {
   text : Left (flat_map unused_line (map string_bytes l.names)) (flat_map unused_line (map string_bytes (drop l.name-index l.names))) (g.K.Sink.written l.fn.out) (g.K.Sink.written l.out);
-  count : g.K.Sink.faults l.fn.out ≤ g.K.Sink.faults l.out;
+  faults : g.K.Sink.faults l.out ≡ g.K.Sink.faults l.fn.out;
 }

@@ -7,8 +7,5 @@ use Rattle.act_top.proofs.reading.fetch.Goals as goal
 pub returns-in-Err-clause-told : goal.returns-in-Err-clause-told
 returns-in-Err-clause-told g c = told-fault _ c.in-Err.fault (refusal_of c.fetch_halt.result) c.args.name.now c.in-Err.ensures.bytes c.fetch_halt.ensures.told
 
-pub returns-in-Err-clause-failed : goal.returns-in-Err-clause-failed
-returns-in-Err-clause-failed g c = unread-then (List ℕ) (Vec ℕ Global) c.fetch_halt.result _ _ c.fetch_halt.ensures.failed (λ is. c.in-Err.ensures.failed (ap (λ (f : FetchFault). Err f) is))
-
 pub returns-in-Err-clause-asked : goal.returns-in-Err-clause-asked
 returns-in-Err-clause-asked g c = same-asks (List ℕ) (Vec ℕ Global) c.fetch_halt.result _ _ c.args.name.now _ _ (rw (← c.in-Err.ensures.asked) at (c.fetch_halt.ensures.asked (g.F.Files.asked c.args.files.now)))

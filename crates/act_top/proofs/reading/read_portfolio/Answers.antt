@@ -18,8 +18,3 @@ unfolding portfolio_read
 returns-clause-told g c =
     told-read c.args.name.now portfolio_accepted (g.F.Files.content c.args.files.now c.args.name.now) c.in_ok-bytes.bytes.items c.accepted_portfolio.result
     (omega (arith, c.in_ok-bytes.ensures.within, c.in_ok-bytes.bytes.ok.0)) c.in_ok-bytes.ensures.told (rw c.deref.ensures.value at c.accepted_portfolio.ensures.told)
-
-pub returns-in_err-bytes-clause-failed : goal.returns-in_err-bytes-clause-failed
-returns-in_err-bytes-clause-failed g c =
-    let p = err_from_is_err_and c.from_residual.result c.from_residual.ensures.1 in
-    rw (p.1, p.2) (unread-then (List ℕ) Accepted c.in_err-bytes.field-0.0 _ _ c.in_err-bytes.ensures.failed (λ rose. rose))

@@ -1,83 +1,107 @@
-use Rattle.std.proofs.Common.{sym, ◌∙◌}
-use Rattle.act_top.specs.declared.task.Task.{Task}
+use Rattle.std.proofs.Common.{◌≡◌, ◌+◌, ◌⊎◌, Err, IfSome, Option, ap, option_map, subst, sym, ◌∙◌}
+use Rattle.act_top.specs.Command.{CommandWords, words_of}
+use Rattle.act_top.specs.Output.{outcome_of}
+use Rattle.act_top.specs.declared.job.Job.{Job}
+use Rattle.act_top.specs.declared.top.Status.{Status}
+use Rattle.act_top.specs.declared.top.Status.TheVariants.{Done, Unfinished}
 use Rattle.act_top.specs.declared.writing.Stop.TheVariants.{Sink as SinkStop, Memory}
-use Rattle.act_top.proofs.Outcomes.{command-asked, command-halt, command-stopped, command-task, ends-whole, not-unread-task, not-words-task, write-failed-task}
-use Rattle.act_top.proofs.Parts.{command-part-halt, command-part-task}
-use Rattle.act_top.proofs.Stopping.{line-names, not-none, not-words-halt, on-command, some-command, unread-halt, write-failed-halt}
+use Rattle.act_top.proofs.Outcomes.{command-asked, command-halt, command-stopped, command-job, ends-whole, ticks-job, not-unread-job, not-words-job, write-failed-job}
+use Rattle.act_top.proofs.Parts.{command-part-halt, command-part-job}
+use Rattle.act_top.proofs.Stopping.{line-names, none-unread-halt, none-unwritten, not-done-halt, not-none, not-words-halt, on-command, sink-rose, some-command, unread-halt, unread-rose, write-failed-halt}
 use Rattle.act_top.proofs.top.eval_top.Goals as goal
 
 pub returns-in-Ok-clause-outcome : goal.returns-in-Ok-clause-outcome
 returns-in-Ok-clause-outcome g c =
-    command-task (g.F.Files.content c.args.files.now) c.in-Some.command _ c.in-Ok.task c.write_task.result _ _ _ (sym c.in-Some.is ∙ c.of.ensures) c.status_of-status.ensures c.in-Ok.ensures.task c.write_task.ensures.status c.write_task.ensures.text
+    command-job (g.F.Files.content c.args.files.now) (words_of c.in-Some.command) _ c.in-Ok.job c.write_job.result _ _ _ (sym (ap (option_map words_of) c.in-Some.is) ∙ c.of.ensures) c.status_of-status.ensures c.in-Ok.ensures.job c.write_job.ensures.status c.write_job.ensures.text
 
 pub returns-in-Ok-clause-words : goal.returns-in-Ok-clause-words
-returns-in-Ok-clause-words g c is = absurd (not-words-task c.in-Ok.task c.write_task.result c.write_task.ensures.status (sym c.status_of-status.ensures ∙ is))
+returns-in-Ok-clause-words g c is = absurd (not-words-job c.in-Ok.job c.write_job.result c.write_job.ensures.status (sym c.status_of-status.ensures ∙ is))
 
 pub returns-in-Ok-clause-read_fault : goal.returns-in-Ok-clause-read_fault
-returns-in-Ok-clause-read_fault g c is = absurd (not-unread-task c.in-Ok.task c.write_task.result c.write_task.ensures.status (sym c.status_of-status.ensures ∙ is))
+returns-in-Ok-clause-read_fault g c is = absurd (not-unread-job c.in-Ok.job c.write_job.result c.write_job.ensures.status (sym c.status_of-status.ensures ∙ is))
 
 pub returns-in-Ok-clause-read_line : goal.returns-in-Ok-clause-read_line
-returns-in-Ok-clause-read_line g c is = absurd (not-unread-task c.in-Ok.task c.write_task.result c.write_task.ensures.status (sym c.status_of-status.ensures ∙ is))
+returns-in-Ok-clause-read_line g c is = absurd (not-unread-job c.in-Ok.job c.write_job.result c.write_job.ensures.status (sym c.status_of-status.ensures ∙ is))
 
 pub returns-in-Ok-clause-asked : goal.returns-in-Ok-clause-asked
 returns-in-Ok-clause-asked g c =
-    command-asked c.in-Some.command _ c.in-Ok.task c.write_task.result _ _ _ _ _ (sym c.in-Some.is ∙ c.of.ensures) c.status_of-status.ensures c.in-Ok.ensures.asked c.write_task.ensures.status
+    command-asked (words_of c.in-Some.command) _ c.in-Ok.job c.write_job.result _ _ _ _ _ (sym (ap (option_map words_of) c.in-Some.is) ∙ c.of.ensures) c.status_of-status.ensures c.in-Ok.ensures.asked c.write_job.ensures.status
 
 pub returns-in-Ok-clause-write_fault : goal.returns-in-Ok-clause-write_fault
-returns-in-Ok-clause-write_fault g c is = c.write_task.ensures.failed (write-failed-task c.in-Ok.task c.write_task.result c.write_task.ensures.status (sym c.status_of-status.ensures ∙ is))
+returns-in-Ok-clause-write_fault g c is = sink-rose c.write_job.result _ _ c.write_job.ensures.faults (write-failed-job c.in-Ok.job c.write_job.result c.write_job.ensures.status (sym c.status_of-status.ensures ∙ is))
 
 pub returns-in-Ok-clause-write_part : goal.returns-in-Ok-clause-write_part
 returns-in-Ok-clause-write_part g c stopped =
-    command-part-task SinkStop _ _ _ _ _ (g.F.Files.content c.args.files.now) c.in-Some.command _ c.in-Ok.task c.write_task.result _ (sym c.in-Some.is ∙ c.of.ensures) c.status_of-status.ensures c.in-Ok.ensures.task c.write_task.ensures.status c.write_task.ensures.text stopped
+    command-part-job SinkStop _ _ _ _ _ (g.F.Files.content c.args.files.now) (words_of c.in-Some.command) _ c.in-Ok.job c.write_job.result _ (sym (ap (option_map words_of) c.in-Some.is) ∙ c.of.ensures) c.status_of-status.ensures c.in-Ok.ensures.job c.write_job.ensures.status c.write_job.ensures.text stopped
 
 pub returns-in-Ok-clause-memory_part : goal.returns-in-Ok-clause-memory_part
 returns-in-Ok-clause-memory_part g c stopped =
-    command-part-task Memory _ _ _ _ _ (g.F.Files.content c.args.files.now) c.in-Some.command _ c.in-Ok.task c.write_task.result _ (sym c.in-Some.is ∙ c.of.ensures) c.status_of-status.ensures c.in-Ok.ensures.task c.write_task.ensures.status c.write_task.ensures.text stopped
+    command-part-job Memory _ _ _ _ _ (g.F.Files.content c.args.files.now) (words_of c.in-Some.command) _ c.in-Ok.job c.write_job.result _ (sym (ap (option_map words_of) c.in-Some.is) ∙ c.of.ensures) c.status_of-status.ensures c.in-Ok.ensures.job c.write_job.ensures.status c.write_job.ensures.text stopped
 
 pub returns-in-Ok-clause-complete : goal.returns-in-Ok-clause-complete
 returns-in-Ok-clause-complete g c = ends-whole _ _ _ _ _ _ (returns-in-Ok-clause-outcome g c) (returns-in-Ok-clause-read_fault g c) (returns-in-Ok-clause-write_fault g c)
 
 pub returns-in-Err-clause-outcome : goal.returns-in-Err-clause-outcome
 returns-in-Err-clause-outcome g c =
-    command-halt (g.F.Files.content c.args.files.now) c.in-Some.command _ c.in-Err.halt c.write_halt.result _ _ _ (sym c.in-Some.is ∙ c.of.ensures) c.status_of-in-Err.ensures c.in-Err.ensures.refused c.write_halt.ensures.status c.write_halt.ensures.text
+    command-halt (g.F.Files.content c.args.files.now) (words_of c.in-Some.command) _ c.in-Err.halt c.write_halt.result _ _ _ (sym (ap (option_map words_of) c.in-Some.is) ∙ c.of.ensures) c.status_of-in-Err.ensures c.in-Err.ensures.refused c.write_halt.ensures.status c.write_halt.ensures.text
 
 pub returns-in-Err-clause-asked : goal.returns-in-Err-clause-asked
 returns-in-Err-clause-asked g c =
-    command-stopped Task c.in-Some.command _ c.in-Err.halt c.write_halt.result _ _ _ _ _ (sym c.in-Some.is ∙ c.of.ensures) c.status_of-in-Err.ensures c.in-Err.ensures.asked c.write_halt.ensures.status c.write_halt.ensures.text c.write_halt.ensures.memory
+    command-stopped Job (words_of c.in-Some.command) _ c.in-Err.halt c.write_halt.result _ _ _ _ _ (sym (ap (option_map words_of) c.in-Some.is) ∙ c.of.ensures) c.status_of-in-Err.ensures c.in-Err.ensures.asked c.write_halt.ensures.status c.write_halt.ensures.text c.write_halt.ensures.memory
 
 pub returns-in-Err-clause-write_part : goal.returns-in-Err-clause-write_part
 returns-in-Err-clause-write_part g c stopped =
-    command-part-halt SinkStop _ _ _ _ _ Task (g.F.Files.content c.args.files.now) c.in-Some.command _ c.in-Err.halt c.write_halt.result _ (sym c.in-Some.is ∙ c.of.ensures) c.status_of-in-Err.ensures c.in-Err.ensures.refused c.in-Err.ensures.failed c.in-Err.ensures.asked c.write_halt.ensures.status c.write_halt.ensures.text c.write_halt.ensures.memory stopped
+    command-part-halt SinkStop _ _ _ _ _ Job (g.F.Files.content c.args.files.now) (words_of c.in-Some.command) _ c.in-Err.halt c.write_halt.result _ (sym (ap (option_map words_of) c.in-Some.is) ∙ c.of.ensures) c.status_of-in-Err.ensures c.in-Err.ensures.refused (unread-rose {A = Job} (Err c.in-Err.halt) _ _ c.in-Err.ensures.faults) c.in-Err.ensures.asked c.write_halt.ensures.status c.write_halt.ensures.text c.write_halt.ensures.memory stopped
 
 pub returns-in-Err-clause-memory_part : goal.returns-in-Err-clause-memory_part
 returns-in-Err-clause-memory_part g c stopped =
-    command-part-halt Memory _ _ _ _ _ Task (g.F.Files.content c.args.files.now) c.in-Some.command _ c.in-Err.halt c.write_halt.result _ (sym c.in-Some.is ∙ c.of.ensures) c.status_of-in-Err.ensures c.in-Err.ensures.refused c.in-Err.ensures.failed c.in-Err.ensures.asked c.write_halt.ensures.status c.write_halt.ensures.text c.write_halt.ensures.memory stopped
+    command-part-halt Memory _ _ _ _ _ Job (g.F.Files.content c.args.files.now) (words_of c.in-Some.command) _ c.in-Err.halt c.write_halt.result _ (sym (ap (option_map words_of) c.in-Some.is) ∙ c.of.ensures) c.status_of-in-Err.ensures c.in-Err.ensures.refused (unread-rose {A = Job} (Err c.in-Err.halt) _ _ c.in-Err.ensures.faults) c.in-Err.ensures.asked c.write_halt.ensures.status c.write_halt.ensures.text c.write_halt.ensures.memory stopped
 
 pub returns-in-Ok-clause-other_words : goal.returns-in-Ok-clause-other_words
-returns-in-Ok-clause-other_words g c is = absurd (not-none c.in-Some.command _ (sym c.in-Some.is ∙ c.of.ensures) is)
+returns-in-Ok-clause-other_words g c is = absurd (not-none (words_of c.in-Some.command) _ (sym (ap (option_map words_of) c.in-Some.is) ∙ c.of.ensures) is)
 
 pub returns-in-Ok-clause-alone : goal.returns-in-Ok-clause-alone
-returns-in-Ok-clause-alone g c = on-command _ c.in-Some.command _ (sym c.in-Some.is ∙ c.of.ensures) c.in-Ok.ensures.alone
+returns-in-Ok-clause-alone g c = on-command _ (words_of c.in-Some.command) _ (sym (ap (option_map words_of) c.in-Some.is) ∙ c.of.ensures) c.in-Ok.ensures.alone
 
 pub returns-in-Err-clause-words : goal.returns-in-Err-clause-words
 returns-in-Err-clause-words g c is = absurd (not-words-halt c.in-Err.halt c.write_halt.result c.write_halt.ensures.status (sym c.status_of-in-Err.ensures ∙ is))
 
 pub returns-in-Err-clause-other_words : goal.returns-in-Err-clause-other_words
-returns-in-Err-clause-other_words g c is = absurd (not-none c.in-Some.command _ (sym c.in-Some.is ∙ c.of.ensures) is)
+returns-in-Err-clause-other_words g c is = absurd (not-none (words_of c.in-Some.command) _ (sym (ap (option_map words_of) c.in-Some.is) ∙ c.of.ensures) is)
 
 pub returns-in-Err-clause-read_fault : goal.returns-in-Err-clause-read_fault
-returns-in-Err-clause-read_fault g c is = unread-halt Task c.in-Err.halt c.write_halt.result _ c.in-Err.ensures.failed c.write_halt.ensures.status (sym c.status_of-in-Err.ensures ∙ is)
+returns-in-Err-clause-read_fault g c is = unread-halt Job c.in-Err.halt c.write_halt.result _ (unread-rose {A = Job} (Err c.in-Err.halt) _ _ c.in-Err.ensures.faults) c.write_halt.ensures.status (sym c.status_of-in-Err.ensures ∙ is)
 
 pub returns-in-Err-clause-read_line : goal.returns-in-Err-clause-read_line
 returns-in-Err-clause-read_line g c is =
-    some-command _ c.in-Some.command _ (sym c.in-Some.is ∙ c.of.ensures)
-    (line-names Task c.in-Some.command c.in-Err.halt c.write_halt.result _ _ _ _ c.in-Err.ensures.asked c.write_halt.ensures.status c.write_halt.ensures.text c.write_halt.ensures.memory (sym c.status_of-in-Err.ensures ∙ is))
+    some-command _ (words_of c.in-Some.command) _ (sym (ap (option_map words_of) c.in-Some.is) ∙ c.of.ensures)
+    (line-names Job (words_of c.in-Some.command) c.in-Err.halt c.write_halt.result _ _ _ _ c.in-Err.ensures.asked c.write_halt.ensures.status c.write_halt.ensures.text c.write_halt.ensures.memory (sym c.status_of-in-Err.ensures ∙ is))
 
 pub returns-in-Err-clause-alone : goal.returns-in-Err-clause-alone
-returns-in-Err-clause-alone g c = on-command _ c.in-Some.command _ (sym c.in-Some.is ∙ c.of.ensures) c.in-Err.ensures.alone
+returns-in-Err-clause-alone g c = on-command _ (words_of c.in-Some.command) _ (sym (ap (option_map words_of) c.in-Some.is) ∙ c.of.ensures) c.in-Err.ensures.alone
 
 pub returns-in-Err-clause-write_fault : goal.returns-in-Err-clause-write_fault
-returns-in-Err-clause-write_fault g c is = c.write_halt.ensures.failed (write-failed-halt c.in-Err.halt c.write_halt.result c.write_halt.ensures.status (sym c.status_of-in-Err.ensures ∙ is))
+returns-in-Err-clause-write_fault g c is = sink-rose c.write_halt.result _ _ c.write_halt.ensures.faults (write-failed-halt c.in-Err.halt c.write_halt.result c.write_halt.ensures.status (sym c.status_of-in-Err.ensures ∙ is))
 
 pub returns-in-Err-clause-complete : goal.returns-in-Err-clause-complete
 returns-in-Err-clause-complete g c = ends-whole _ _ _ _ _ _ (returns-in-Err-clause-outcome g c) (returns-in-Err-clause-read_fault g c) (returns-in-Err-clause-write_fault g c)
+
+pub returns-in-Ok-clause-no_write_fault : goal.returns-in-Ok-clause-no_write_fault
+returns-in-Ok-clause-no_write_fault g c other = c.write_job.ensures.faults ∙ none-unwritten c.write_job.result _ (λ is. other (c.status_of-status.ensures ∙ is))
+
+pub returns-in-Err-clause-no_write_fault : goal.returns-in-Err-clause-no_write_fault
+returns-in-Err-clause-no_write_fault g c other = c.write_halt.ensures.faults ∙ none-unwritten c.write_halt.result _ (λ is. other (c.status_of-in-Err.ensures ∙ is))
+
+pub returns-in-Err-clause-no_read_fault : goal.returns-in-Err-clause-no_read_fault
+returns-in-Err-clause-no_read_fault g c read write memory =
+    c.in-Err.ensures.faults ∙ none-unread-halt Job c.in-Err.halt c.write_halt.result _ c.write_halt.ensures.status
+    (λ is. read (c.status_of-in-Err.ensures ∙ is)) (λ is. write (c.status_of-in-Err.ensures ∙ is)) (λ is. memory (c.status_of-in-Err.ensures ∙ is))
+
+pub returns-in-Ok-clause-ticks : goal.returns-in-Ok-clause-ticks
+returns-in-Ok-clause-ticks g c done =
+    subst (λ (given : Option CommandWords). IfSome (outcome_of (g.F.Files.content c.args.files.now) given) (λ wanted. c.write_job.new.steps ≡ c.args.steps.now + wanted.rows)) (sym (ap (option_map words_of) c.in-Some.is) ∙ c.of.ensures)
+    (ticks-job _ c.in-Ok.job c.write_job.result _ _ c.in-Ok.ensures.job c.write_job.ensures.ticked (subst (λ (s : Status). (s ≡ Done) ⊎ (s ≡ Unfinished)) c.status_of-status.ensures done))
+
+pub returns-in-Err-clause-ticks : goal.returns-in-Err-clause-ticks
+returns-in-Err-clause-ticks g c done =
+    absurd (not-done-halt c.in-Err.halt c.write_halt.result c.write_halt.ensures.status (subst (λ (s : Status). (s ≡ Done) ⊎ (s ≡ Unfinished)) c.status_of-in-Err.ensures done))

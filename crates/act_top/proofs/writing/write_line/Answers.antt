@@ -1,4 +1,4 @@
-use Rattle.std.proofs.Common.{arith, length-drop}
+use Rattle.std.proofs.Common.{◌∙◌, arith, length-drop}
 use Rattle.std.proofs.lemmas.List.{take_rest}
 use Rattle.act_top.proofs.Texts.{written-piece}
 use Rattle.act_top.proofs.writing.write_line.Goals as goal
@@ -9,5 +9,5 @@ pieces-preserved g c =
     record {
       within = omega (arith, took.0, length-drop c.pieces.done c.args.line.now);
       text = written-piece _ _ _ c.pieces.done c.in_ok-done.field-0 c.args.line.now _ c.pieces.invariant.within (take_rest c.args.line.now c.pieces.done) c.pieces.invariant.text c.in_ok-done.ensures.took.2;
-      count = omega (arith, c.in_ok-done.ensures.count);
+      faults = c.in_ok-done.ensures.faults ∙ c.pieces.invariant.faults;
     }

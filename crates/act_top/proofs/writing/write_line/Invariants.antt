@@ -8,7 +8,7 @@ invariant-pieces g l =
     record {
       within : l.done ≤ length l.line;
       text : g.K.Sink.written l.out ≡ written_after (g.K.Sink.written l.fn.out) (take l.done l.line);
-      count : g.K.Sink.faults l.fn.out ≤ g.K.Sink.faults l.out;
+      faults : g.K.Sink.faults l.out ≡ g.K.Sink.faults l.fn.out;
     }
 
 abbrev pub decreases-pieces : goal.decreases-pieces

@@ -1,5 +1,6 @@
 use Rattle.std.proofs.Common.{◌≡◌, [], ◌∷◌, ◌++◌, map, string_bytes, None, sym, ap, subst, ◌∙◌, arith}
 use Rattle.std.proofs.lemmas.Grind.{common_steps}
+use Rattle.std.proofs.lemmas.List.{length-map}
 use Rattle.act_model.specs.Names.{AreNames, place_of}
 use Rattle.act_model.proofs.NamePlaces.{inserted, more_names}
 use Rattle.act_model.proofs.names.NameList.add.Goals as goal
@@ -13,7 +14,7 @@ texts_are c =
 
 pub invariant_of-self-2 : goal.invariant_of-self-2
 invariant_of-self-2 c =
-    subst AreNames (sym (texts_are c)) (more_names (map string_bytes c.self.inside.texts.keys) c.args.name.now (absent c) c.self.invariant c.requires.name (rw c.self.view_is c.requires.room))
+    subst AreNames (sym (texts_are c)) (more_names (map string_bytes c.self.inside.texts.keys) c.args.name.now (absent c) c.self.invariant c.requires.name (omega (arith, length-map c.self.inside.texts.keys string_bytes)))
 
 pub returns-clause-names : goal.returns-clause-names
 returns-clause-names c = texts_are c ∙ ap (λ names. names ++ c.args.name.now ∷ []) c.self.view_is

@@ -10,10 +10,10 @@ events_are c =
 
 pub returns-clause-count : goal.returns-clause-count
 returns-clause-count c =
-    let both = counted _ _ _ _ c.self.invariant c.args.contract (rw (← c.self.view_is) at c.requires.contract) c.index.result.now c.index.ensures in
+    let both = counted _ _ _ _ _ c.self.invariant c.args.contract (rw (← c.self.view_is) at c.requires.contract) c.index.result.now c.index.ensures in
     events_are c ∙ sym both.0 ∙ ap (λ p. scheduled_count p.contracts c.args.contract) c.self.view_is
 
 pub returns-clause-within : goal.returns-clause-within
 returns-clause-within c =
-    let both = counted _ _ _ _ c.self.invariant c.args.contract (rw (← c.self.view_is) at c.requires.contract) c.index.result.now c.index.ensures in
+    let both = counted _ _ _ _ _ c.self.invariant c.args.contract (rw (← c.self.view_is) at c.requires.contract) c.index.result.now c.index.ensures in
     rw (events_are c) both.1

@@ -1,0 +1,97 @@
+//! The standard output of the system, which is written in large pieces. It tells nothing of what was written.
+ghost use Rattle.std.specs.Prelude.{◌≡◌, ◌≢◌, None, Ok, Err, length};
+ghost use Rattle.act_io.specs.declared.sink.PutFault.TheVariants.{NoMemory};
+ghost use Rattle.act_io.specs.Put.{Puts, put_faults};
+
+use crate::{PutFault, Sink};
+use std::alloc::Global;
+use std::marker::Model;
+
+/// How many bytes are gathered before they are written: 64 KiB.
+const MOST_GATHERED: usize = 65_536;
+
+/// The standard output. What it takes is gathered, and written when there is no more room for it and by
+/// [`StdSink::finish`], once and in order. Contracts see it as the count of faults. A write that takes nothing is a fault.
+#[derive(Drop)]
+pub struct StdSink<'a, R: Print> {
+    rt: &'a R,
+    gathered: Vec<u8>,
+    faults: u64,
+}
+
+impl<'a, R: Print> Model for StdSink<'a, R> {
+    ghost use Rattle.std.specs.Prelude.{ℕ};
+
+    ghost Value = { ℕ };
+
+    ghost view = { λ s. s.faults };
+}
+
+impl<'a, R: Print> StdSink<'a, R> {
+    /// The standard output, with no fault counted.
+    pub fn new(alloc: Global, rt: &'a R) -> StdSink<'a, R>
+        ensures { result ≡ 0 }
+    {
+        StdSink {
+            rt,
+            gathered: Vec::new(alloc),
+            faults: 0,
+        }
+    }
+
+    /// Writes what is gathered. After a fault a part of it may have been written, and the rest is given up.
+    pub fn finish(&mut self) -> Result<(), PutFault>
+        ensures memory { result ≢ Err NoMemory }
+        ensures faults { self.new ≡ put_faults result self.old }
+    {
+        let written = self.rt.write_all(&self.gathered);
+        self.gathered.clear();
+        if written.is_err() {
+            self.faults = self.faults.saturating_add(1);
+            return Err(PutFault::Failed);
+        }
+        Ok(())
+    }
+
+    /// Writes the first bytes of a piece that isn't empty, and answers how many.
+    fn write(&mut self, piece: &[u8]) -> Result<usize, PutFault>
+        ensures took { Puts piece.now None None result }
+        ensures memory { result ≢ Err NoMemory }
+        ensures faults { self.new ≡ put_faults result self.old }
+    {
+        match self.rt.write_some(piece) {
+            Ok(count) if count > 0 => Ok(count),
+            _ => {
+                self.faults = self.faults.saturating_add(1);
+                Err(PutFault::Failed)
+            }
+        }
+    }
+}
+
+impl<R: Print> Sink for StdSink<'_, R> {
+    ghost written = { λ _. None };
+
+    ghost faults = { λ s. s };
+
+    /// A piece for which there is no memory, or that is as long as what may be gathered, is written at once, behind what is
+    /// gathered.
+    fn put(&mut self, piece: &[u8]) -> Result<usize, PutFault>
+        ensures took { Puts piece.now None None result }
+        ensures empty { length piece.now ≡ 0 → result ≡ Ok 0 }
+        ensures memory { result ≢ Err NoMemory }
+        ensures faults { self.new ≡ put_faults result self.old }
+    {
+        if piece.is_empty() {
+            return Ok(0);
+        }
+        if self.gathered.len() >= MOST_GATHERED {
+            self.finish()?;
+        }
+        if piece.len() < MOST_GATHERED && self.gathered.extend_from_slice(piece).is_ok() {
+            return Ok(piece.len());
+        }
+        self.finish()?;
+        self.write(piece)
+    }
+}

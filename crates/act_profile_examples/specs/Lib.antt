@@ -1,0 +1,4 @@
+pub mod Examples
+pub mod Special
+pub mod Tables
+pub mod Worked
