@@ -17,15 +17,19 @@ use std::sync::ledger::Ledger;
 enum Family {
     /// act_loan: PAM.
     Loan,
+    /// act_equity: STK.
+    Equity,
 }
 
 /// The crate that a kind is in.
 fn family_of(kind: &Kind) -> Family
     requires { IsBuilt kind.now }
-    ensures { result ≡ Family.Loan → type_of kind.now ≡ ContractType.PAM }
+    ensures loan { result ≡ Family.Loan → type_of kind.now ≡ ContractType.PAM }
+    ensures equity { result ≡ Family.Equity → type_of kind.now ≡ ContractType.STK }
 {
     match kind {
         Kind::PAM(_) => Family::Loan,
+        Kind::STK(_) => Family::Equity,
         _ => unreachable!(),
     }
 }
@@ -38,6 +42,7 @@ pub fn schedule(alloc: Global, terms: &Terms) -> Result<Plan, PlanFault>
 {
     match family_of(&terms.kind) {
         Family::Loan => act_loan::schedule(alloc, terms),
+        Family::Equity => act_equity::schedule(alloc, terms),
     }
 }
 
@@ -50,6 +55,7 @@ pub fn start(terms: &Terms, plan: &Plan) -> Result<State, Stop>
 {
     match family_of(&terms.kind) {
         Family::Loan => act_loan::start(terms, plan),
+        Family::Equity => act_equity::start(terms, plan),
     }
 }
 
@@ -69,17 +75,19 @@ pub fn step<O: Observed, L: Ledger>(
 {
     match family_of(&terms.kind) {
         Family::Loan => act_loan::step(terms, plan, state, event, seen, steps),
+        Family::Equity => act_equity::step(terms, plan, state, event, seen, steps),
     }
 }
 
 /// The currency of each payoff, by its number.
-#[tactic(auto, using(crate::proofs::Currencies::currency_of_pam))]
+#[tactic(auto, using(crate::proofs::Currencies::currency_of_pam, crate::proofs::Currencies::currency_of_stk))]
 pub fn currency_of(terms: &Terms) -> u32
     requires { IsBuilt terms.now.kind }
     ensures { (event : Event) → result ≡ currency_of terms.now [] event }
 {
     match family_of(&terms.kind) {
         Family::Loan => own_currency(&terms.common),
+        Family::Equity => own_currency(&terms.common),
     }
 }
 

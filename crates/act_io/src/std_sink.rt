@@ -1,6 +1,7 @@
 //! The standard output of the system, which is written in large pieces. It tells nothing of what was written.
-ghost use Rattle.std.specs.Prelude.{◌≡◌, ◌≢◌, None, Ok, Err, length};
+ghost use Rattle.std.specs.Prelude.{◌≡◌, ◌≢◌, [], None, Ok, Err, length};
 ghost use Rattle.act_io.specs.declared.sink.PutFault.TheVariants.{NoMemory};
+ghost use Rattle.act_io.specs.Gathered.{Gathers};
 ghost use Rattle.act_io.specs.Put.{Puts, put_faults};
 
 use crate::{PutFault, Sink};
@@ -10,8 +11,8 @@ use std::marker::Model;
 /// How many bytes are gathered before they are written: 64 KiB.
 const MOST_GATHERED: usize = 65_536;
 
-/// The standard output. What it takes is gathered, and written when there is no more room for it and by
-/// [`StdSink::finish`], once and in order. Contracts see it as the count of faults. A write that takes nothing is a fault.
+/// The standard output. What it takes is gathered, and written, once and in order, where 64 KiB or more are gathered and by
+/// [`StdSink::finish`]. Contracts see what is gathered and the count of faults. A write that takes nothing is a fault.
 #[derive(Drop)]
 pub struct StdSink<'a, R: Print> {
     rt: &'a R,
@@ -20,17 +21,18 @@ pub struct StdSink<'a, R: Print> {
 }
 
 impl<'a, R: Print> Model for StdSink<'a, R> {
-    ghost use Rattle.std.specs.Prelude.{ℕ};
+    ghost use Rattle.act_io.specs.Gathered.{Gathering};
 
-    ghost Value = { ℕ };
+    ghost Value = { Gathering };
 
-    ghost view = { λ s. s.faults };
+    ghost view = { λ s. record { gathered = s.gathered.items; faults = s.faults } };
 }
 
 impl<'a, R: Print> StdSink<'a, R> {
     /// The standard output, with no fault counted.
     pub fn new(alloc: Global, rt: &'a R) -> StdSink<'a, R>
-        ensures { result ≡ 0 }
+        ensures gathered { result.gathered ≡ [] }
+        ensures faults { result.faults ≡ 0 }
     {
         StdSink {
             rt,
@@ -41,8 +43,9 @@ impl<'a, R: Print> StdSink<'a, R> {
 
     /// Writes what is gathered. After a fault a part of it may have been written, and the rest is given up.
     pub fn finish(&mut self) -> Result<(), PutFault>
+        ensures gathered { self.new.gathered ≡ [] }
         ensures memory { result ≢ Err NoMemory }
-        ensures faults { self.new ≡ put_faults result self.old }
+        ensures faults { self.new.faults ≡ put_faults result self.old.faults }
     {
         let written = self.rt.write_all(&self.gathered);
         self.gathered.clear();
@@ -56,8 +59,9 @@ impl<'a, R: Print> StdSink<'a, R> {
     /// Writes the first bytes of a piece that isn't empty, and answers how many.
     fn write(&mut self, piece: &[u8]) -> Result<usize, PutFault>
         ensures took { Puts piece.now None None result }
+        ensures gathered { self.new.gathered ≡ self.old.gathered }
         ensures memory { result ≢ Err NoMemory }
-        ensures faults { self.new ≡ put_faults result self.old }
+        ensures faults { self.new.faults ≡ put_faults result self.old.faults }
     {
         match self.rt.write_some(piece) {
             Ok(count) if count > 0 => Ok(count),
@@ -72,15 +76,15 @@ impl<'a, R: Print> StdSink<'a, R> {
 impl<R: Print> Sink for StdSink<'_, R> {
     ghost written = { λ _. None };
 
-    ghost faults = { λ s. s };
+    ghost faults = { λ s. s.faults };
 
-    /// A piece for which there is no memory, or that is as long as what may be gathered, is written at once, behind what is
-    /// gathered.
+    /// A piece for which there is no memory, or that has 64 KiB or more, is written at once, behind what is gathered.
     fn put(&mut self, piece: &[u8]) -> Result<usize, PutFault>
         ensures took { Puts piece.now None None result }
         ensures empty { length piece.now ≡ 0 → result ≡ Ok 0 }
+        ensures gathered { Gathers piece.now self.old.gathered self.new.gathered result }
         ensures memory { result ≢ Err NoMemory }
-        ensures faults { self.new ≡ put_faults result self.old }
+        ensures faults { self.new.faults ≡ put_faults result self.old.faults }
     {
         if piece.is_empty() {
             return Ok(0);

@@ -1,5 +1,5 @@
 //! What the code of all kinds of contracts shares: the sign of a role, the step of an event by the line of a table,
-//! and the events of planned dates.
+//! the events of planned dates, purchase and termination, and the state that every contract begins with.
 #![tactic(auto)]
 
 mod dates;
@@ -7,6 +7,7 @@ mod order;
 mod planned;
 mod sign;
 mod table;
+mod trade;
 
 pub use dates::{
     recurrence, recurrence_or_end, recurring, recurring_before, recurring_or_end_after, united,
@@ -15,3 +16,4 @@ pub use order::{is_unpaid, order_law, put_in_order, retain_counting};
 pub use planned::{Planned, events_by_type, shifting, unshifted};
 pub use sign::{opposite, signed};
 pub use table::{Payment, Table, take_step};
+pub use trade::{first_state, later_day, passed, trade_payoff, trade_plan};

@@ -2,10 +2,10 @@
 ghost use Rattle.std.specs.Prelude.{◌≡◌};
 ghost use Rattle.act_profile.specs.Formula.{interest_on};
 ghost use Rattle.act_profile.specs.Loan.{accrued, accrued_fee, accrued_interest, before_event, interest_base};
-ghost use Rattle.act_profile.specs.States.{later_day};
 
 use crate::terms::LoanTerms;
 use act_date::{Day, Frac};
+use act_kind::later_day;
 use act_model::{ContractType, EventType, FeeBasis, State};
 use act_num::Fixed;
 
@@ -74,11 +74,4 @@ pub(crate) fn interest_on(amount: Fixed, rate: Fixed, part: Frac) -> Option<Fixe
     ensures { result ≡ interest_on amount rate part }
 {
     amount.mul_frac(rate, part.num, part.den)
-}
-
-/// The later of Sd and a day.
-fn later_day(sd: Option<Day>, day: Day) -> Day
-    ensures { result ≡ later_day sd day }
-{
-    sd.unwrap_or(day).max(day)
 }

@@ -8,6 +8,7 @@ ghost use Rattle.act_profile.specs.States.{first_state, with_md};
 
 use crate::terms::LoanTerms;
 use act_date::Day;
+use act_kind::first_state;
 use act_model::{ContractType, Plan, State};
 use act_num::{Fixed, rnd};
 
@@ -104,19 +105,7 @@ fn nothing_owed(status_date: Day, maturity: Day) -> State
     ensures { result ≡ with_md maturity (first_state status_date) }
 {
     State {
-        sd: Some(status_date),
         md: Some(maturity),
-        xd: None,
-        nt: Fixed::ZERO,
-        ipnr: Fixed::ZERO,
-        ipac: Fixed::ZERO,
-        ipnr2: Fixed::ZERO,
-        ipac2: Fixed::ZERO,
-        feac: Fixed::ZERO,
-        nsc: Fixed::ONE,
-        isc: Fixed::ONE,
-        ipcb: Fixed::ZERO,
-        prnxt: Fixed::ZERO,
-        xa: Fixed::ZERO,
+        ..first_state(status_date)
     }
 }

@@ -1,5 +1,5 @@
 -- What a contract without children counts and weighs.
-use Rattle.std.proofs.Common.{◌≡◌, ℕ, ◌+◌, ◌<◌, ◌≤◌, List, [], ◌∷◌, length, get_or, map, option_map, Some, Ok, inl, inr, refl, ap, sym, ◌∙◌, arith}
+use Rattle.std.proofs.Common.{◌≡◌, ℕ, ◌+◌, ◌<◌, ◌≤◌, List, [], ◌∷◌, length, get_or, option_map, Some, Ok, inl, inr, refl, ap, sym, ◌∙◌, arith}
 use Rattle.std.proofs.lemmas.List.{length-map}
 use Rattle.std.proofs.lemmas.Option.{slice_get-get_or, slice_get-map, slice_get_cases}
 use Rattle.std.specs.List.{slice_get}
@@ -21,6 +21,7 @@ use Rattle.act_portfolio.proofs.PlanLengths.{plan_is_within}
 
 by_kind : (contract : Kind) (plan : EventPlan) → IsBuilt contract → (own_count contract plan ≡ length plan.events) × (counted_by contract ≡ [])
 by_kind (kind.PAM pam) plan built = (refl, refl)
+by_kind (kind.STK stk) plan built = (refl, refl)
 by_kind other plan built = absurd built
 
 -- a kind that is built counts the events of its plan

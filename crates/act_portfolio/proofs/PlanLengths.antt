@@ -1,5 +1,5 @@
--- A loan's plan has no more than 4,096 events.
-use Rattle.std.proofs.Common.{◌≡◌, ℕ, suc, ◌+◌, ◌≤◌, Bool, true, false, List, [], ◌∷◌, ◌++◌, length, map, Option, Some, None, option_map, Result, Ok, Err, nat_lt, refl, ap, ◌∙◌, if◌then◌else◌, length-append, arith}
+-- The plan of a kind that is built has no more than 4,096 events.
+use Rattle.std.proofs.Common.{◌≡◌, ℕ, suc, ℤ, ◌+◌, ◌≤◌, Bool, true, false, List, [], ◌∷◌, ◌++◌, length, map, Option, Some, None, option_map, Result, Ok, Err, nat_lt, refl, ap, ◌∙◌, if◌then◌else◌, length-append, arith}
 use Rattle.std.proofs.lemmas.Bool.Decides.{nat_tests}
 use Rattle.std.proofs.lemmas.List.{length-map}
 use Rattle.std.proofs.lemmas.List.FromFn.{length-enumerate_from}
@@ -7,6 +7,8 @@ use Rattle.std.specs.List.{enumerate_from}
 use Rattle.std.specs.Option.{ok_or}
 use Rattle.act_model.specs.Run.{EventPlan}
 use Rattle.act_model.specs.declared.event.Event.{Event}
+use Rattle.act_model.specs.declared.event.EventType.{EventType}
+use Rattle.act_model.specs.declared.event.EventType.TheVariants.{PRD, TD}
 use Rattle.act_model.specs.declared.run.PlanFault.{PlanFault}
 use Rattle.act_model.specs.declared.run.PlanFault.TheVariants.{TooManyDates, DateRange}
 use Rattle.act_model.specs.declared.terms.Common.{Common}
@@ -19,7 +21,8 @@ use Rattle.act_profile.specs.LoanPlan.{loan_dates, loan_plan, with_redemptions}
 use Rattle.act_profile.specs.LoanTerms.{LoanTerms}
 use Rattle.act_profile.specs.Order.{in_order, precedes}
 use Rattle.act_profile.specs.Outcomes.{map_ok, then_ok}
-use Rattle.act_profile.specs.Plan.{plan_by, plan_of}
+use Rattle.act_profile.specs.Plan.{plan_by, plan_of, trade_plan}
+use Rattle.act_profile.specs.Trade.{event_where_given, plain_plan, trade_events}
 use Rattle.act_profile.specs.Planning.{Planned, events_by_type, planned_event, planned_events, type_events}
 use Rattle.act_model.specs.Limits.{most_dates}
 
@@ -104,8 +107,20 @@ loan_is_within l plan is = by_events (events_by_type l.common 0 (loan_dates l)) 
         let e : with_redemptions l (in_order events) ≡ plan = cc in
         rw (← e) (omega (arith, types_are_within l.common (loan_dates l) 0 events (omega arith) are, ordered_are_as_many events))
 
+one_at_most : (type : EventType) (date : Option ℤ) → length (event_where_given type date) ≤ 1
+one_at_most type None = omega arith
+one_at_most type (Some date) = omega arith
+
+trades_are_within : (common : Common) (plan : EventPlan) → trade_plan common ≡ Ok plan → length plan.events ≤ 4096
+trades_are_within common plan is =
+    let e : plain_plan (in_order (trade_events common)) ≡ plan = cc in
+    let purchase = event_where_given PRD common.purchase_date in
+    let termination = event_where_given TD common.termination_date in
+    rw (← e) (omega (arith, ordered_are_as_many (trade_events common), length-append purchase termination, one_at_most PRD common.purchase_date, one_at_most TD common.termination_date))
+
 by_kind : (common : Common) (contract : Kind) (plan : EventPlan) → IsBuilt contract → plan_by common contract ≡ Ok plan → length plan.events ≤ 4096
 by_kind common (kind.PAM pam) plan built is = loan_is_within _ plan is
+by_kind common (kind.STK stk) plan built is = trades_are_within common plan is
 by_kind common other plan built is = absurd built
 
 -- the plan of a kind that is built

@@ -2,7 +2,7 @@
 -- least one unit. A kind that isn't built satisfies nothing. This profile's own.
 use Rattle.std.specs.Option.{ForSome}
 use Rattle.act_model.specs.declared.terms.Kind.{Kind}
-use Rattle.act_model.specs.declared.terms.Kind.TheVariants.{PAM}
+use Rattle.act_model.specs.declared.terms.Kind.TheVariants.{PAM, STK}
 use Rattle.act_model.specs.declared.terms.Loan.{Loan}
 use Rattle.act_model.specs.declared.terms.Redemption.{Redemption}
 use Rattle.act_profile.specs.LoanTerms.{LoanTerms}
@@ -28,4 +28,5 @@ pub record CyclesLeadOn (l : LoanTerms) : Type 0 where
 -- the terms of a kind that is built
 abbrev pub IsBuilt : Kind → Type 0
 IsBuilt (PAM pam) = LoanLeadsOn pam.loan
+IsBuilt (STK stk) = Unit {0}
 IsBuilt other = ⊥

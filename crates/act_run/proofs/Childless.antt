@@ -31,6 +31,7 @@ is_childless other = true
 
 pub childless_built : (contract : Kind) → IsBuilt contract → is_childless contract ≡ true
 childless_built (kind.PAM pam) built = refl
+childless_built (kind.STK stk) built = refl
 childless_built other built = absurd built
 
 -- ---- the events

@@ -9,7 +9,7 @@ use Rattle.act_profile.specs.Outcomes.{then_ok}
 use Rattle.act_json.specs.Fields.{word_field}
 use Rattle.act_terms.specs.Choices.{scaling_effect_named}
 use Rattle.act_terms.specs.Common.{business_days_of, common_of, position_of, trades_of}
-use Rattle.act_terms.specs.Contract.{NamedTerms, contract_type, named_terms_of, pam_terms_of, terms_of}
+use Rattle.act_terms.specs.Contract.{NamedTerms, contract_type, named_terms_of, pam_terms_of, stk_terms_of, terms_of}
 use Rattle.act_terms.specs.Fields.{choice_field, day_after, needed, needed_day, needed_where, not_negative, optional, optional_cycle, optional_day, optional_decimal, positive}
 use Rattle.act_terms.specs.Loan.{fee_of, interest_dates_of, interest_of, loan_of, no_effect, pam_of, penalty_of, rate_limits_of, rate_reset_of, reset_code_for, scales, scaling_of}
 use Rattle.act_terms.specs.Names.{code_where, contract_id, currencies_of, currency_field, numbered, numbered_currencies, pair_name}
@@ -110,9 +110,15 @@ pam_terms_keep number names contract =
     naming names.contracts _ (common_of number names contract) (common_keeps names.contracts names refl contract number) (λ common at.
     naming names.contracts _ (pam_of common.1 contract) (pam_keeps names.contracts common.1 at contract) (λ pam at. at))
 
+stk_terms_keep : (number : ℕ) (names : NameLists) (contract : Data) → Keeps names.contracts (stk_terms_of number names contract)
+unfolding stk_terms_of
+stk_terms_keep number names contract =
+    naming names.contracts _ (common_of number names contract) (common_keeps names.contracts names refl contract number) (λ common at. at)
+
 terms_keep : (type : ContractType) (number : ℕ) (names : NameLists) (contract : Data) → Keeps names.contracts (terms_of type number names contract)
 unfolding terms_of
 terms_keep type.PAM number names contract = pam_terms_keep number names contract
+terms_keep type.STK number names contract = stk_terms_keep number names contract
 terms_keep other number names contract = tt
 
 named_keep : (number : ℕ) (names : NameLists) (contract : Data) → Keeps names.contracts (named_terms_of number names contract)

@@ -39,9 +39,16 @@ pam_terms_of number names contract = do
   pam ← pam_of common.1 contract
   Ok (record { common = common.0; kind = kind.PAM pam.0 }, pam.1)
 
--- the terms of a type; those of another type than PAM aren't read yet
+-- the terms of a STK, which has none of its own
+unfoldable pub stk_terms_of : ℕ → NameLists → Data → Result (Terms × NameLists) TermsFault
+stk_terms_of number names contract = do
+  common ← common_of number names contract
+  Ok (record { common = common.0; kind = kind.STK (record {}) }, common.1)
+
+-- the terms of a type; those of another type than PAM and STK aren't read yet
 unfoldable pub terms_of : ContractType → ℕ → NameLists → Data → Result (Terms × NameLists) TermsFault
 terms_of type.PAM number names contract = pam_terms_of number names contract
+terms_of type.STK number names contract = stk_terms_of number names contract
 terms_of other number names contract = refused NotBuilt (codes "contractType")
 
 -- the name and the terms of an object

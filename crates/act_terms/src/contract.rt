@@ -4,7 +4,7 @@ ghost use Rattle.std.specs.Str.{bytes_eq};
 ghost use Rattle.serde_json.specs.View.{view};
 ghost use Rattle.act_profile.specs.Built.{IsBuilt};
 ghost use Rattle.act_model.specs.Name.{is_name};
-ghost use Rattle.act_terms.specs.Contract.{contract_of, contract_type, named_terms_of, pam_terms_of, terms_of};
+ghost use Rattle.act_terms.specs.Contract.{contract_of, contract_type, named_terms_of, pam_terms_of, stk_terms_of, terms_of};
 
 use crate::common::read_common;
 use crate::currencies::contract_id;
@@ -12,7 +12,7 @@ use crate::fault::{TermCause, TermsFault, refused};
 use crate::fields::needed;
 use crate::loan::read_pam;
 use act_json::text_in;
-use act_model::{ContractType, Kind, Names, Terms};
+use act_model::{ContractType, Kind, Names, Stk, Terms};
 use serde_json::Value;
 use std::alloc::Global;
 use std::marker::Model;
@@ -97,7 +97,7 @@ fn contract_type(contract: &Value) -> Result<ContractType, TermsFault>
     }
 }
 
-/// The terms of a type; those of another type than PAM aren't read yet.
+/// The terms of a type; those of another type than PAM and STK aren't read yet.
 #[tactic(auto, unfolding(crate::specs::Contract::terms_of))]
 fn read_terms(
     alloc: Global,
@@ -113,6 +113,7 @@ fn read_terms(
 {
     match contract_type {
         ContractType::PAM => read_pam_terms(alloc, contract, number, names),
+        ContractType::STK => read_stk_terms(alloc, contract, number, names),
         _ => Err(refused(TermCause::NotBuilt, "contractType")),
     }
 }
@@ -135,5 +136,25 @@ fn read_pam_terms(
     Ok(Terms {
         common,
         kind: Kind::PAM(pam),
+    })
+}
+
+/// The terms of a STK, which has none of its own.
+#[tactic(auto, unfolding(crate::specs::Contract::stk_terms_of))]
+fn read_stk_terms(
+    alloc: Global,
+    contract: &Value,
+    number: u32,
+    names: &mut Names,
+) -> Result<Terms, TermsFault>
+    ensures read { IfOk result (λ terms. stk_terms_of number names.old (view contract.now) ≡ Ok (terms, names.new)) }
+    ensures refused { IfErr result (λ fault. fault ≢ TermsFault.NoMemory
+        → stk_terms_of number names.old (view contract.now) ≡ Err fault) }
+    ensures built { IfOk result (λ terms. IsBuilt terms.kind) }
+{
+    let common = read_common(alloc, contract, number, names)?;
+    Ok(Terms {
+        common,
+        kind: Kind::STK(Stk {}),
     })
 }

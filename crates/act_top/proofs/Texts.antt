@@ -1,7 +1,8 @@
 -- Texts that are written piece by piece.
-use Rattle.std.proofs.Common.{◌≡◌, ℕ, ◌+◌, ◌<◌, ◌≤◌, zero, suc, List, [], ◌∷◌, ◌++◌, length, take, drop, get_or, drop-cons, add-one, Option, None, Some, Result, Ok, Err, inl, inr, ◌⊎◌, min, refl, sym, ap, subst, ◌∙◌, arith, append_assoc, append-nil, length-append}
+use Rattle.std.proofs.Common.{◌≡◌, ℕ, ◌+◌, ◌<◌, ◌≤◌, zero, suc, List, [], ◌∷◌, ◌++◌, length, take, drop, get_or, drop-cons, add-one, Option, None, Some, Result, Ok, Err, inl, inr, ◌⊎◌, Bool, true, false, refl, sym, ap, subst, ◌∙◌, arith, append_assoc, append-nil, length-append}
+use Rattle.std.specs.Prelude.{◌==◌}
 use Rattle.std.specs.Result.{IsErrAnd}
-use Rattle.std.proofs.Math.Nat.{eq-or-lt_of_le, min-le_right}
+use Rattle.std.proofs.lemmas.Bool.{eqb-true}
 use Rattle.std.proofs.Math.Seq.{take-append-add}
 use Rattle.std.proofs.lemmas.List.{take-append-drop, take-append-le, length-take, drop_all}
 use Rattle.act_io.specs.Faults.{Rose, last_count, next_count}
@@ -106,11 +107,11 @@ faults-on B (Err s) stop before now is same = same ∙ ap (λ (t : Stop). faults
 
 -- a count that went up rose
 pub rose-next : (before now : ℕ) → now ≡ next_count before → Rose before now
-rose-next before now is = by (eq-or-lt_of_le (min-le_right (before + 1) last_count))
+rose-next before now is = by (before == last_count) refl
   where
-    by : (next_count before ≡ last_count) ⊎ (next_count before < last_count) → Rose before now
-    by (inl last) = inr (is ∙ last)
-    by (inr below) = inl (omega (arith, is, below))
+    by : (last : Bool) → (before == last_count) ≡ last → Rose before now
+    by true last = inr (is ∙ (rw last refl ∙ eqb-true before last_count last))
+    by false more = let up : next_count before ≡ before + 1 = rw more refl in inl (omega (arith, is, up))
 
 -- the same of the first text of two
 pub writes-first : {A : Type 0} (r : Result A Stop) (stop : Stop) (a b : List ℕ) (before after : Option (List ℕ)) → IsErrAnd r (λ s. s ≡ stop) → IsPartAt stop a before after → Writes r (a ++ b) before after

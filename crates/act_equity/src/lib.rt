@@ -1,0 +1,7 @@
+//! Stocks: STK in full.
+#![tactic(auto)]
+
+mod stk;
+mod table;
+
+pub use stk::{schedule, start, step};
