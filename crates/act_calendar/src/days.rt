@@ -1,34 +1,15 @@
 //! Days by their numbers, and the days of a month.
 ghost use Rattle.std.specs.Prelude.{◌≡◌, ◌+ℤ◌};
-ghost use Rattle.act_date.specs.Civil.{day_in_range, first_day};
+ghost use Rattle.act_date.specs.Civil.{day_in_range};
 ghost use Rattle.act_calendar.specs.Shift.{is_in_month};
 
-use act_date::{Cycle, Day, Stub, Unit, add_cycles, civil, month_end, parse_day};
-
-/// A cycle of one day.
-const ONE_DAY: Cycle = Cycle {
-    count: 1,
-    unit: Unit::D,
-    stub: Stub::Short,
-};
+use act_date::{Day, civil, month_end};
 
 /// The day of that number, or None where it lies outside 1900 to 2299.
-#[tactic(auto, unfolding(act_date::specs::Cycle::plus_cycles))]
 pub(crate) fn day_at(number: i32) -> Option<Day>
     ensures { result ≡ day_in_range number }
 {
-    let first = first_day();
-    match u32::try_from(i64::from(number) - i64::from(first.number())) {
-        Ok(days) => add_cycles(first, ONE_DAY, days),
-        Err(_) => None,
-    }
-}
-
-/// 1900-01-01.
-fn first_day() -> Day
-    ensures { result ≡ first_day }
-{
-    parse_day(b"1900-01-01").unwrap()
+    Day::from_number(i64::from(number))
 }
 
 /// Whether the day that is so many days later, or below 0 earlier, lies in the month of the day.

@@ -2,8 +2,8 @@
 ghost use Rattle.std.specs.Prelude.{◌≡◌, ℕ, ◌^◌, ◌<◌};
 ghost use Rattle.act_date.specs.Cycle.{ComesAfter, plus_cycles, day_after, days, months, span_of};
 
-use crate::Day;
-use jiff::ToSpan;
+use crate::{Day, civil};
+use jiff_core::civil::Date;
 
 /// The length of each period of a schedule, and what becomes of a last period that isn't a whole cycle.
 #[derive(Clone, Copy, PartialEq, Eq)]
@@ -104,9 +104,11 @@ fn add_days(day: Day, count: u64) -> Option<Day>
 fn add_months(day: Day, count: u64) -> Option<Day>
     ensures { result ≡ day_after day (months count) }
 {
-    let date = day.date();
+    let (year, month, day_of_month) = civil(day);
     if count > MOST_MONTHS {
         return None;
     }
-    Day::from_date(date.checked_add((count as i64).months()).unwrap())
+    let months = 12 * year as u64 + (month as u64 - 1) + count;
+    let later = Date::constrain((months / 12) as i16, (months % 12 + 1) as u8, day_of_month);
+    Day::from_number(i64::from(later.to_unix_epoch_day()))
 }

@@ -52,8 +52,8 @@ impl Day {
         self.number
     }
 
-    /// The day of that number, or None where it lies outside 1900 to 2299.
-    pub(crate) fn from_number(number: i64) -> Option<Day>
+    /// The day so many days from 1970-01-01, or None where it lies outside 1900 to 2299.
+    pub fn from_number(number: i64) -> Option<Day>
         ensures { result ≡ day_in_range number }
     {
         if FIRST <= number && number <= LAST {

@@ -1,7 +1,7 @@
 //! Numbers written as decimal text.
 ghost use Rattle.std.specs.Prelude.{◌≡◌, ◌+◌, ◌<◌, ◌≤◌, ◌++◌, ◌/◌, ◌%◌, codes, decimal, drop, length, take};
 ghost use Rattle.act_num.specs.Decimal.{decimal_of, fraction_text, printed, sign_text};
-ghost use Rattle.act_num.specs.Number.{one};
+ghost use Rattle.act_num.specs.Number.{InRange, one};
 
 use crate::Fixed;
 use crate::pieces::put;
@@ -12,32 +12,56 @@ impl Fixed {
     /// Writes the number in front of `out`, and returns how many bytes its text has, at most 41: `-` where it is
     /// negative, the whole part without leading zeros, a point and nine digits. `Fixed::parse` reads the number
     /// back from it.
-    #[tactic(auto, using(crate::proofs::Padded::writing_steps), unfolding(crate::specs::Decimal::printed))]
+    #[tactic(auto, unfolding(crate::specs::Decimal::printed))]
     pub fn write(self, out: &mut [u8; 48]) -> usize
         ensures written { take result out.new ≡ printed self }
         ensures read_back { decimal_of (take result out.new) ≡ Ok self }
         ensures rest { drop result out.new ≡ drop result out.old }
         ensures short { result ≤ 41 }
     {
-        let units = self.units();
-        let end = put_sign(out, units);
-        let (end, fraction) = put_whole(out, end, units.unsigned_abs());
-        put_fraction(out, end, fraction)
+        put_units(out, 0, self.units())
+    }
+
+    /// Writes the number's text, of at most 41 bytes, at a place of `out`, and returns the place behind it.
+    #[tactic(auto, unfolding(crate::specs::Decimal::printed))]
+    pub fn write_at(self, out: &mut [u8], at: usize) -> usize
+        requires { at + 41 ≤ length out.old }
+        ensures end { result ≡ at + length (printed self) }
+        ensures written { take result out.new ≡ take at out.old ++ printed self }
+        ensures rest { drop result out.new ≡ drop result out.old }
+        ensures short { result ≤ at + 41 }
+    {
+        put_units(out, at, self.units())
     }
 }
 
+/// Writes the number of so many units, and returns the place behind it.
+#[tactic(auto, using(crate::proofs::Padded::writing_steps), unfolding(crate::specs::Decimal::printed))]
+fn put_units(out: &mut [u8], at: usize, units: i128) -> usize
+    requires room { at + 41 ≤ length out.old }
+    requires in_range { InRange units }
+    ensures end { result ≡ at + length (printed units) }
+    ensures written { take result out.new ≡ take at out.old ++ printed units }
+    ensures rest { drop result out.new ≡ drop result out.old }
+    ensures short { result ≤ at + 41 }
+{
+    let end = put_sign(out, at, units);
+    let (end, fraction) = put_whole(out, end, units.unsigned_abs());
+    put_fraction(out, end, fraction)
+}
+
 /// Writes a minus sign where the number is negative, and returns the place behind it.
-fn put_sign(out: &mut [u8], units: i128) -> usize
-    requires { 1 ≤ length out.old }
-    ensures end { result ≡ length (sign_text units) }
-    ensures written { take result out.new ≡ sign_text units }
+fn put_sign(out: &mut [u8], at: usize, units: i128) -> usize
+    requires { at + 1 ≤ length out.old }
+    ensures end { result ≡ at + length (sign_text units) }
+    ensures written { take result out.new ≡ take at out.old ++ sign_text units }
     ensures rest { drop result out.new ≡ drop result out.old }
 {
     if units < 0 {
-        out[0] = b'-';
-        1
+        out[at] = b'-';
+        at + 1
     } else {
-        0
+        at
     }
 }
 

@@ -94,9 +94,8 @@ impl TextLine {
         ensures text { self.new ≡ self.old ++ codes " " ++ printed number }
         ensures len { length self.new ≤ length self.old + 42 }
     {
-        let mut text = [0; 48];
-        let end = number.write(&mut text);
-        self.push_word(&text[..end]);
+        self.push_bytes(b" ");
+        self.end = number.write_at(&mut self.bytes, self.end);
     }
 
     /// Adds the line and its line feed to `out`. Where memory runs out, `out` is as before.
