@@ -9,7 +9,7 @@ use act_kind::later_day;
 use act_model::{ContractType, EventType, FeeBasis, State};
 use act_num::Fixed;
 
-impl LoanTerms {
+impl LoanTerms<'_> {
     /// The state before an event: what has accrued up to its day. Nothing accrues before IED and CE.
     pub(crate) fn before_event(&self, kind: EventType, calc: Day, state: &State) -> Option<State>
         ensures { result ≡ before_event self.now kind calc state.now }

@@ -13,7 +13,7 @@ use act_kind::{recurrence, recurrence_or_end};
 use act_model::{ContractType, Redemption};
 use act_sched::Schedule;
 
-impl LoanTerms {
+impl LoanTerms<'_> {
     /// The day from which a started loan's interest has accrued: the latest of the initial exchange and the interest
     /// dates, before they are moved, that isn't after the status date.
     pub(crate) fn accrues_from(&self) -> Option<Day>
@@ -75,7 +75,7 @@ impl LoanTerms {
         let Some(redemption) = self.redemption else {
             return Some(first);
         };
-        let dates = self.redemption_schedule(&redemption, self.maturity)?;
+        let dates = self.redemption_schedule(redemption, self.maturity)?;
         Some(self.latest_paid(dates, first))
     }
 

@@ -15,7 +15,7 @@ use act_date::{Day, Frac};
 use act_model::{Plan, State};
 use act_num::Fixed;
 
-impl LoanTerms {
+impl LoanTerms<'_> {
     /// The state after PRF: the payment of each redemption is the annuity payment.
     pub(crate) fn with_payment_fixed(&self, plan: &Plan, calc: Day, state: &State) -> Option<State>
         requires { plan.now.periods ≡ parts_between self.now plan.now.redemptions }

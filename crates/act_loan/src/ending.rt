@@ -10,7 +10,7 @@ use crate::terms::LoanTerms;
 use act_model::State;
 use act_num::Fixed;
 
-impl LoanTerms {
+impl LoanTerms<'_> {
     /// What PRD pays: the price and the interest accrued, with the opposite sign.
     pub(crate) fn purchase_payoff(&self, state: &State) -> Option<Fixed>
         ensures { result ≡ sub_of (own_opposite self.now self.now.common.price_at_purchase_date) state.now.ipac }

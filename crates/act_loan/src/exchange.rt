@@ -9,7 +9,7 @@ use act_date::Day;
 use act_model::{InterestCalculationBase, State};
 use act_num::Fixed;
 
-impl LoanTerms {
+impl LoanTerms<'_> {
     /// What IED pays: the notional and the premium, with the opposite sign.
     pub(crate) fn exchange_payoff(&self) -> Option<Fixed>
         ensures { result

@@ -8,7 +8,7 @@ use crate::terms::LoanTerms;
 use act_model::{FeeBasis, State};
 use act_num::Fixed;
 
-impl LoanTerms {
+impl LoanTerms<'_> {
     /// What FP pays: of basis A the amount, of basis N what has accrued.
     pub(crate) fn fee_payoff(&self, state: &State) -> Option<Fixed>
         ensures { result

@@ -8,7 +8,7 @@ use crate::terms::LoanTerms;
 use act_model::State;
 use act_num::Fixed;
 
-impl LoanTerms {
+impl LoanTerms<'_> {
     /// The state after IPCI: what has accrued becomes part of the notional.
     pub(crate) fn capitalize(&self, state: &State) -> Option<State>
         ensures { result

@@ -60,7 +60,7 @@ pub fn step<O: Observed, L: Ledger>(
 }
 
 /// The terms of a PAM as a loan's.
-fn loan_terms(terms: &Terms) -> LoanTerms
+fn loan_terms(terms: &Terms) -> LoanTerms<'_>
     requires { type_of terms.now.kind ≡ ContractType.PAM }
     ensures loan { loan_terms_of terms.now.common terms.now.kind ≡ Some result }
     ensures kind { result.type ≡ ContractType.PAM }
@@ -68,7 +68,7 @@ fn loan_terms(terms: &Terms) -> LoanTerms
     ensures cycles { IsBuilt terms.now.kind → CyclesLeadOn result }
 {
     match &terms.kind {
-        Kind::PAM(pam) => LoanTerms::of_pam(terms.common, *pam),
+        Kind::PAM(pam) => LoanTerms::of_pam(&terms.common, pam),
         _ => unreachable!(),
     }
 }
@@ -76,7 +76,7 @@ fn loan_terms(terms: &Terms) -> LoanTerms
 /// The dates of each type of event. A PAM has no PR, PRF and IPCB.
 fn dates_by_type(
     alloc: Global,
-    loan: &LoanTerms,
+    loan: &LoanTerms<'_>,
 ) -> Result<Vec<Result<Vec<Planned>, PlanFault>>, AllocError>
     requires kind { loan.now.type ≡ ContractType.PAM }
     requires redemption { loan.now.redemption ≡ None }

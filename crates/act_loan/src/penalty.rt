@@ -11,7 +11,7 @@ use act_kind::Payment;
 use act_model::{PenaltyType, State};
 use act_num::Fixed;
 
-impl LoanTerms {
+impl LoanTerms<'_> {
     /// How PY pays: only the interest that is lost is by an observed rate.
     pub(crate) fn penalty_payment(&self, calc: Day) -> Payment
         ensures { result ≡ payment_of (penalty_payoff self.now calc self.now.loan.penalty_type) }

@@ -21,7 +21,7 @@ use act_model::{ContractType, Event, EventType, Plan, PlanFault};
 use act_num::Fixed;
 use std::alloc::{AllocError, Global};
 
-impl LoanTerms {
+impl LoanTerms<'_> {
     /// The plan by the dates of each type of event, in the order of the types: the scheduled events in order, and of an
     /// annuity the days that redemptions and the maturity go by, with the parts of a year between them; or the first
     /// fault.
@@ -54,7 +54,7 @@ impl LoanTerms {
         ensures events { IfOk result (λ events. loan_plan self.now ≡ Ok (with_redemptions self.now events.items)) }
         ensures fault { IfErr result (λ fault. fault ≢ PlanFault.NoMemory → loan_plan self.now ≡ Err fault) }
     {
-        match events_by_type(alloc, &self.common, types) {
+        match events_by_type(alloc, self.common, types) {
             Ok(events) => in_order(events),
             Err(fault) => Err(fault),
         }

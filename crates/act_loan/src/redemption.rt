@@ -9,7 +9,7 @@ use crate::terms::LoanTerms;
 use act_model::{ContractType, Event, InterestCalculationBase, State};
 use act_num::Fixed;
 
-impl LoanTerms {
+impl LoanTerms<'_> {
     /// What PR pays.
     pub(crate) fn redemption_payoff(&self, state: &State) -> Option<Fixed>
         ensures { result

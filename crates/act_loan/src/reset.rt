@@ -8,7 +8,7 @@ use crate::terms::LoanTerms;
 use act_model::{RateReset, State};
 use act_num::Fixed;
 
-impl LoanTerms {
+impl LoanTerms<'_> {
     /// The state after RR, by the value of the reset code.
     pub(crate) fn reset(&self, value: Option<Fixed>, state: &State) -> Option<State>
         ensures { result

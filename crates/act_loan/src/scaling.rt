@@ -7,7 +7,7 @@ use crate::terms::LoanTerms;
 use act_model::{ScalingEffect, State};
 use act_num::Fixed;
 
-impl LoanTerms {
+impl LoanTerms<'_> {
     /// The state after SC, by the value of the scaling code.
     pub(crate) fn scale(&self, value: Option<Fixed>, state: &State) -> Option<State>
         ensures { result

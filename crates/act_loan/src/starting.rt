@@ -12,7 +12,7 @@ use act_kind::first_state;
 use act_model::{ContractType, Plan, State};
 use act_num::{Fixed, rnd};
 
-impl LoanTerms {
+impl LoanTerms<'_> {
     /// The state that a loan begins with, or None where it is undefined.
     pub fn first_state(&self, plan: &Plan) -> Option<State>
         requires cycles { CyclesLeadOn self.now }
@@ -86,7 +86,7 @@ impl LoanTerms {
         ensures few { IfSome result (λ count. count ≤ 146_096) }
     {
         match self.redemption {
-            Some(redemption) => self.redemptions_before(&redemption, self.maturity),
+            Some(redemption) => self.redemptions_before(redemption, self.maturity),
             None => Some(0),
         }
     }

@@ -17,7 +17,7 @@ use std::sync::ledger::Ledger;
 /// The state that a loan begins with, by its terms as a loan's, or an overflow at its initial exchange on the status
 /// date where that is undefined. It takes no memory.
 #[tactic(auto, using(crate::proofs::Contracts::periods_of))]
-pub fn start_loan(terms: &Terms, loan: &LoanTerms, plan: &Plan) -> Result<State, Stop>
+pub fn start_loan(terms: &Terms, loan: &LoanTerms<'_>, plan: &Plan) -> Result<State, Stop>
     requires loan { loan_terms_of terms.now.common terms.now.kind ≡ Some loan.now }
     requires cycles { CyclesLeadOn loan.now }
     requires plan { plan_of terms.now ≡ Ok plan.now }
@@ -37,7 +37,7 @@ pub fn start_loan(terms: &Terms, loan: &LoanTerms, plan: &Plan) -> Result<State,
 #[tactic(auto, using(crate::proofs::Contracts::periods_of))]
 pub fn step_loan<O: Observed, L: Ledger>(
     terms: &Terms,
-    loan: LoanTerms,
+    loan: LoanTerms<'_>,
     plan: &Plan,
     state: &State,
     event: &Event,

@@ -11,7 +11,7 @@ use std::marker::Model;
 /// The table of steps of a loan that has a plan. Contracts see its terms and the plan.
 #[derive(Drop)]
 pub struct LoanTable<'a> {
-    terms: LoanTerms,
+    terms: LoanTerms<'a>,
     plan: &'a Plan,
 }
 
@@ -33,9 +33,9 @@ impl<'a> LoanTable<'a> {
     ghost use Rattle.act_profile.specs.LoanPlan.{parts_between};
 
     /// The table of a loan's terms and its plan.
-    pub fn new(terms: LoanTerms, plan: &'a Plan) -> LoanTable<'a>
+    pub fn new(terms: LoanTerms<'a>, plan: &'a Plan) -> LoanTable<'a>
         requires { plan.now.periods ≡ parts_between terms plan.now.redemptions }
-        ensures { result ≡ (terms, plan.now) }
+        ensures { result ≡ (terms.entry, plan.now) }
     {
         LoanTable { terms, plan }
     }

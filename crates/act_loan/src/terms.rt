@@ -10,42 +10,42 @@ use act_model::{Common, ContractType, InterestCalculationBase, Loan, Pam, Redemp
 use act_num::Fixed;
 use std::marker::Model;
 
-/// The terms of a loan of the kinds PAM, LAM, NAM and ANN.
-#[derive(Clone, Copy)]
-pub struct LoanTerms {
+/// The terms of a loan of the kinds PAM, LAM, NAM and ANN. They are borrowed, so that making them for each step costs
+/// nothing. Contracts see the terms themselves.
+#[derive(Drop)]
+pub struct LoanTerms<'a> {
     /// Its kind.
     pub kind: ContractType,
     /// What every contract has.
-    pub common: Common,
+    pub common: &'a Common,
     /// What all loans have.
-    pub loan: Loan,
+    pub loan: &'a Loan,
     /// The terms of redemption, which a PAM hasn't.
-    pub redemption: Option<Redemption>,
+    pub redemption: Option<&'a Redemption>,
     /// The given amount of each redemption, in units of 10^-9.
     pub payment: Option<Fixed>,
     /// The maturity T, given or derived.
     pub maturity: Day,
 }
 
-impl Model for LoanTerms {
+impl<'a> Model for LoanTerms<'a> {
+    ghost use Rattle.std.specs.Prelude.{option_map};
     ghost use Rattle.act_profile.specs.LoanTerms.{LoanTerms};
 
     ghost Value = { LoanTerms };
 
-    ghost view = { λ l. record { type = l.kind; common = l.common; loan = l.loan; redemption = l.redemption; payment = l.payment; maturity = l.maturity } };
-
-    ghost inverse = { λ l. record { kind = l.type; common = l.common; loan = l.loan; redemption = l.redemption; payment = l.payment; maturity = l.maturity } };
+    ghost view = { λ l. record { type = l.kind; common = l.common.now; loan = l.loan.now; redemption = option_map (λ r. r.now) l.redemption; payment = l.payment; maturity = l.maturity } };
 }
 
-impl LoanTerms {
+impl<'a> LoanTerms<'a> {
     /// The terms of a PAM, which redeems nothing before its maturity.
-    pub fn of_pam(common: Common, pam: Pam) -> LoanTerms
-        ensures { loan_terms_of common (kinds.PAM pam) ≡ Some result }
+    pub fn of_pam(common: &'a Common, pam: &'a Pam) -> LoanTerms<'a>
+        ensures { loan_terms_of common.now (kinds.PAM pam.now) ≡ Some result }
     {
         LoanTerms {
             kind: ContractType::PAM,
             common,
-            loan: pam.loan,
+            loan: &pam.loan,
             redemption: None,
             payment: None,
             maturity: pam.maturity_date,
