@@ -1,5 +1,5 @@
 -- The status that a command ends with.
-use Rattle.std.proofs.Common.{◌≡◌, ℕ, List, [], ◌∷◌, Option, None, Some, Result, Ok, Err, IfSome, IfOk, IsSomeAnd, inl, inr, ◌⊎◌, option_to_list, if◌then◌else◌, true, false, Bool, ◌+◌, ap, refl, sym, subst, ◌∙◌}
+use Rattle.std.proofs.Common.{◌≡◌, ◌≢◌, ℕ, List, [], ◌∷◌, Option, None, Some, Result, Ok, Err, IfSome, IfOk, IsSomeAnd, inl, inr, ◌⊎◌, option_to_list, if◌then◌else◌, true, false, Bool, ◌+◌, ap, refl, sym, subst, ◌∙◌}
 use Rattle.std.specs.Prelude.{⊤}
 use Rattle.std.proofs.lemmas.Option.{IfSome_then}
 use Rattle.act_io.specs.Put.{written_after}
@@ -146,6 +146,20 @@ pub write-failed-job : (t : Job) (written : Result Status Stop) → IfOk written
 write-failed-job t (Ok status) is same = absurd (subst IsOfJob (sym is ∙ same) (of-job t))
 write-failed-job t (Err SinkStop) is same = refl
 write-failed-job t (Err Memory) is same = cc
+
+-- a job that was written, or that writing stopped, ended in one of four ways
+pub ended-job : (t : Job) (written : Result Status Stop) → IfOk written (λ status. status ≡ (job_outcome t).status) → status_of written ≢ Done → status_of written ≢ Unfinished → status_of written ≢ WriteFault → status_of written ≢ NoMemory → ⊥
+ended-job t (Ok Done) is done unfinished failed lost = done refl
+ended-job t (Ok Unfinished) is done unfinished failed lost = unfinished refl
+ended-job t (Ok Words) is done unfinished failed lost = subst IsOfJob (sym is) (of-job t)
+ended-job t (Ok ReadFault) is done unfinished failed lost = subst IsOfJob (sym is) (of-job t)
+ended-job t (Ok TooLong) is done unfinished failed lost = subst IsOfJob (sym is) (of-job t)
+ended-job t (Ok PortfolioRefused) is done unfinished failed lost = subst IsOfJob (sym is) (of-job t)
+ended-job t (Ok ScriptRefused) is done unfinished failed lost = subst IsOfJob (sym is) (of-job t)
+ended-job t (Ok WriteFault) is done unfinished failed lost = subst IsOfJob (sym is) (of-job t)
+ended-job t (Ok NoMemory) is done unfinished failed lost = subst IsOfJob (sym is) (of-job t)
+ended-job t (Err SinkStop) is done unfinished failed lost = failed refl
+ended-job t (Err Memory) is done unfinished failed lost = lost refl
 
 -- ---- what was asked for
 

@@ -1,19 +1,19 @@
 -- What the status of a command that stopped says.
 use Rattle.std.proofs.Common.{◌≡◌, ◌≢◌, ap, ℕ, List, Option, None, Some, Result, Ok, Err, IfOk, IfSome, IsSomeAnd, inl, inr, ◌⊎◌, refl, sym, subst, ◌∙◌}
-use Rattle.act_io.specs.Faults.{Rose}
+use Rattle.act_io.specs.Faults.{Rose, next_count}
 use Rattle.act_io.specs.Put.{written_after}
 use Rattle.act_top.specs.Asked.{AsksBy, NamesFile}
 use Rattle.act_top.specs.Command.{CommandWords, Verb, Eval, Check, script_file}
 use Rattle.act_top.specs.Halts.{AsksFiles, OnUnread, halt_outcome, read_faults}
 use Rattle.act_top.specs.Output.{read_outcome, status_of}
-use Rattle.act_top.specs.Written.{Writes, faults_after}
+use Rattle.act_top.specs.Written.{FailsOnce, IsPart, Writes, faults_after}
 use Rattle.act_top.specs.declared.halt.Halt.{Halt}
 use Rattle.act_top.specs.declared.halt.Halt.TheVariants as halt
 use Rattle.act_top.specs.declared.top.Status.{Status}
 use Rattle.act_top.specs.declared.top.Status.TheVariants.{Done, Unfinished, Words, ReadFault, WriteFault, NoMemory}
 use Rattle.act_top.specs.declared.writing.Stop.{Stop}
 use Rattle.act_top.specs.declared.writing.Stop.TheVariants.{Sink as SinkStop, Memory}
-use Rattle.act_top.proofs.Outcomes.{asked-halt}
+use Rattle.act_top.proofs.Outcomes.{asked-halt, names-line}
 use Rattle.act_top.proofs.Texts.{rose-next}
 
 -- ---- the command
@@ -102,6 +102,15 @@ unread-rose (Err (halt.PortfolioRefused line)) before now is = tt
 unread-rose (Err (halt.ScriptRefused line)) before now is = tt
 unread-rose (Err halt.Memory) before now is = tt
 
+-- a file that wasn't read is one fault more
+pub unread-once : {A : Type 0} (r : Result A Halt) (before now : ℕ) → now ≡ read_faults r before → OnUnread r (now ≡ next_count before)
+unread-once (Ok value) before now is = tt
+unread-once (Err (halt.Unread line)) before now is = is
+unread-once (Err (halt.TooLong line)) before now is = tt
+unread-once (Err (halt.PortfolioRefused line)) before now is = tt
+unread-once (Err (halt.ScriptRefused line)) before now is = tt
+unread-once (Err halt.Memory) before now is = tt
+
 -- where the status isn't that of a read that failed, nor of a write that did or of want of memory, no read has failed
 pub none-unread-halt : (A : Type 0) (h : Halt) (written : Result Status Stop) (before : ℕ) → IfOk written (λ s. s ≡ (halt_outcome h).status)
     → status_of written ≢ ReadFault → status_of written ≢ WriteFault → status_of written ≢ NoMemory → read_faults {A = A} (Err h) before ≡ before
@@ -119,9 +128,27 @@ none-unwritten (Ok status) before other = refl
 none-unwritten (Err SinkStop) before other = absurd (other refl)
 none-unwritten (Err Memory) before other = refl
 
--- where the sink failed, its count rose
-pub sink-rose : (written : Result Status Stop) (before now : ℕ) → now ≡ faults_after written before → written ≡ Err SinkStop → Rose before now
-sink-rose written before now is failed = rose-next before now (is ∙ ap (λ (w : Result Status Stop). faults_after w before) failed)
+-- where the sink failed, its count rose by one
+pub sink-once : (written : Result Status Stop) (before now : ℕ) → now ≡ faults_after written before → written ≡ Err SinkStop → now ≡ next_count before
+sink-once written before now is failed = is ∙ ap (λ (w : Result Status Stop). faults_after w before) failed
+
+-- a part of a text was written where writing stopped
+part-stopped : (written : Result Status Stop) (text : List ℕ) (before after : Option (List ℕ)) → (status_of written ≡ WriteFault) ⊎ (status_of written ≡ NoMemory) → IfOk written (λ s. s ≡ ReadFault) → Writes written text before after → IsPart text before after
+part-stopped (Ok s) text before after (inl stopped) is put = absurd (cc)
+part-stopped (Ok s) text before after (inr stopped) is put = absurd (cc)
+part-stopped (Err SinkStop) text before after stopped is put = record { bytes = put.bytes; put = put.put }
+part-stopped (Err Memory) text before after stopped is put = put
+
+-- reading failed at most once, and then a part of its line was written
+pub fails-once : (A : Type 0) (command : CommandWords) (given : Option CommandWords) (h : Halt) (written : Result Status Stop) (faults now : ℕ) (asked asks : Option (List (List ℕ))) (before after : Option (List ℕ)) → Some command ≡ given
+    → now ≡ read_faults {A = A} (Err h) faults → AsksFiles {A = A} command (Err h) asked asks → IfOk written (λ s. s ≡ (halt_outcome h).status) → Writes written (halt_outcome h).text before after
+    → (status_of written ≡ WriteFault) ⊎ (status_of written ≡ NoMemory) → FailsOnce given faults now asked asks before after
+fails-once A command given (halt.Unread line) written faults now asked asks before after named is names status text stopped =
+    inr (is, some-command _ command given named (names-line read_outcome command line.items (λ (t : List ℕ). IsPart t before after) asked asks names (part-stopped written line.items before after stopped status text)))
+fails-once A command given (halt.TooLong line) written faults now asked asks before after named is names status text stopped = inl is
+fails-once A command given (halt.PortfolioRefused line) written faults now asked asks before after named is names status text stopped = inl is
+fails-once A command given (halt.ScriptRefused line) written faults now asked asks before after named is names status text stopped = inl is
+fails-once A command given halt.Memory written faults now asked asks before after named is names status text stopped = inl is
 
 -- ---- the line
 

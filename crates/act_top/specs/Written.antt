@@ -40,3 +40,9 @@ faults_after (Err Memory) before = before
 abbrev pub WritesPart : (List ℕ → Type 0) → Option CommandWords → Type 0 → Option (List (List ℕ)) → Option (List (List ℕ)) → Outcome → Type 0
 WritesPart IsPartOf command ReadingFailed before after wanted =
     IsPartOf wanted.text ⊎ (ReadingFailed × IsSomeAnd command (λ c. NamesFile read_outcome c IsPartOf before after))
+
+-- reading didn't fail; or it failed once, and then a part of the line that names the file was written, which is the last that was asked for
+abbrev pub FailsOnce : Option CommandWords → ℕ → ℕ → Option (List (List ℕ)) → Option (List (List ℕ)) → Option (List ℕ) → Option (List ℕ) → Type 0
+FailsOnce command faults now asked asks before after =
+    (now ≡ faults)
+    ⊎ ((now ≡ next_count faults) × IsSomeAnd command (λ c. NamesFile read_outcome c (λ text. IsPart text before after) asked asks))

@@ -1,13 +1,13 @@
 //! The commands.
 ghost use Rattle.std.specs.Prelude.{◌≡◌, ◌≢◌, ◌+◌, ◌⊎◌, if◌then◌else◌, None, Some, Err, IfOk, IfSome, IsSomeAnd, map, string_bytes};
-ghost use Rattle.act_io.specs.Faults.{Rose};
+ghost use Rattle.act_io.specs.Faults.{Rose, next_count};
 ghost use Rattle.act_io.specs.Put.{written_after};
 ghost use Rattle.act_top.specs.Asked.{AsksFor, AsksNoScript};
 ghost use Rattle.act_top.specs.Command.{command_of};
 ghost use Rattle.act_top.specs.Halts.{halt_outcome};
 ghost use Rattle.act_top.specs.Output.{EndsAs, outcome_of, read_outcome, status_number, status_of, words_outcome};
 ghost use Rattle.act_top.specs.Jobs.{job_outcome};
-ghost use Rattle.act_top.specs.Written.{IsPart, IsProperPart, Writes, WritesPart, faults_after};
+ghost use Rattle.act_top.specs.Written.{FailsOnce, IsPart, IsProperPart, Writes, WritesPart, faults_after};
 ghost use Rattle.act_top.specs.declared.top.Status.TheVariants.{Done, NoMemory, ReadFault, Unfinished, Words, WriteFault};
 ghost use Rattle.act_top.specs.declared.writing.Stop.TheVariants.{Sink as SinkStop, Memory as MemoryStop};
 
@@ -83,8 +83,15 @@ pub fn eval_top<F: Files, K: Sink, L: Ledger>(
     ensures words { result ≡ Words → command_of (map string_bytes words.now) ≡ None }
     ensures other_words { command_of (map string_bytes words.now) ≡ None →
         EndsAs words_outcome result (K.written out.old) (K.written out.new) }
-    ensures read_fault { result ≡ ReadFault → Rose (F.faults files.old) (F.faults files.new) }
+    ensures read_fault { result ≡ ReadFault → F.faults files.new ≡ next_count (F.faults files.old) }
     ensures no_read_fault { result ≢ ReadFault → result ≢ WriteFault → result ≢ NoMemory → F.faults files.new ≡ F.faults files.old }
+
+    // Where writing failed or memory ran out, reading failed at most once, and where it did, no more was written than a part
+    // of the line that names the file, the last that was asked for.
+    ensures read_once { (result ≡ WriteFault) ⊎ (result ≡ NoMemory) →
+        FailsOnce (command_of (map string_bytes words.now)) (F.faults files.old) (F.faults files.new)
+        (F.asked files.old) (F.asked files.new) (K.written out.old) (K.written out.new) }
+
     ensures read_line { result ≡ ReadFault → IsSomeAnd (command_of (map string_bytes words.now)) (λ command.
         (K.written out.new ≡ written_after (K.written out.old) (read_outcome command.portfolio).text)
         ⊎ IsSomeAnd command.script (λ script. K.written out.new ≡ written_after (K.written out.old) (read_outcome script).text)) }
@@ -95,11 +102,14 @@ pub fn eval_top<F: Files, K: Sink, L: Ledger>(
     ensures ticks { (result ≡ Done) ⊎ (result ≡ Unfinished) →
         IfSome (outcome_of (F.content files.old) (command_of (map string_bytes words.now))) (λ wanted. steps.new ≡ steps.old + wanted.rows) }
 
+    // It doesn't tick for words of no command's form, for a file that wasn't read or is too long, and for what is refused.
+    ensures no_ticks { result ≢ Done → result ≢ Unfinished → result ≢ WriteFault → result ≢ NoMemory → steps.new ≡ steps.old }
+
     // Where the portfolio is refused, no script was asked for, whatever the status.
     ensures alone { IfSome (command_of (map string_bytes words.now)) (λ command.
         AsksNoScript (F.content files.old) command (F.asked files.old) (F.asked files.new)) }
 
-    ensures write_fault { result ≡ WriteFault → Rose (K.faults out.old) (K.faults out.new) }
+    ensures write_fault { result ≡ WriteFault → K.faults out.new ≡ next_count (K.faults out.old) }
     ensures no_write_fault { result ≢ WriteFault → K.faults out.new ≡ K.faults out.old }
 
     // Where writing failed, what was written is a part of the wanted text and not all of it, or, where reading failed, of
