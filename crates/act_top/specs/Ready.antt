@@ -1,18 +1,20 @@
 -- What is ready to be written. This profile's own.
-use Rattle.std.specs.Prelude.{◌≡◌, ◌<◌, ◌≤◌, ℕ, not, true, List, [], ◌++◌, length, map, slice_get, Some, None}
-use Rattle.std.specs.Arc.{arc_value}
-use Rattle.std.specs.declared.sync.Arc.{Arc}
-use Rattle.std.specs.List.{All, count_by, flat_map, sum_by}
-use Rattle.std.specs.declared.alloc.Global.{Global}
+use Rattle.std.specs.Prelude.{◌≡◌, ◌<◌, ◌≤◌, ℕ, Bool, not, true, List, [], ◌++◌, length, map, slice_get, Some, None}
+use Rattle.std.specs.List.{All, count_by, flat_map, list_all, sum_by}
+use Rattle.act_model.specs.Names.{NameLists}
+use Rattle.act_model.specs.declared.journal.Asked.{Asked}
+use Rattle.act_model.specs.declared.observed.Obs.{Obs}
 use Rattle.act_model.specs.Run.{Stream}
 use Rattle.act_model.specs.Limits.{most_entries}
 use Rattle.act_model.specs.declared.journal.Line.{Line}
 use Rattle.act_portfolio.specs.Reading.{Accepted}
-use Rattle.act_print.specs.Text.{answers_head_text, item_text, journal_head_text}
+use Rattle.act_print.specs.Printed.{printed_block}
+use Rattle.act_print.specs.Text.{answers_head_text, block_text, item_text, journal_head_text}
 use Rattle.act_script.specs.Reading.{Script}
-use Rattle.act_model.specs.Journal.{appends_entry, is_append, is_known}
+use Rattle.act_model.specs.Journal.{appends_entry, contracts_of, is_append, is_known}
 use Rattle.act_profile.specs.Answers.{answers_of}
-use Rattle.act_top.specs.Output.{Outcome, answers_status, items_of, output_of, row_count, too_much_asked}
+use Rattle.act_profile.specs.Run.{Contracts, run_of}
+use Rattle.act_top.specs.Output.{Outcome, answers_status, is_end, items_of, output_of, row_count, too_much_asked}
 
 -- what is true of the lines of a script of a portfolio: the contracts are the portfolio's, what a step names is named, what it appends is an
 -- entry of a book, and a book holds them all
@@ -38,9 +40,19 @@ pub record Evaluation : Type 0 where
   pub portfolio : Accepted
   pub script : Script
 
--- the runs of contracts, each with its contract
-abbrev pub runs_of : List (ℕ × Arc Stream Global) → List (ℕ × Stream)
-runs_of runs = map (λ (run : ℕ × Arc Stream Global). (run.0, arc_value run.1)) runs
+-- the runs of the contracts asked for over the entries that are seen, each with its contract
+abbrev pub runs_asked : Contracts → NameLists → List Obs → Asked → List (ℕ × Stream)
+runs_asked contracts names entries asked = map (λ c. (c, run_of contracts entries c)) (contracts_of names asked)
+
+-- their blocks, whether each ends in `end`, and how many rows they have
+abbrev pub runs_text : NameLists → List (ℕ × Stream) → List ℕ
+runs_text names runs = flat_map (λ (run : ℕ × Stream). block_text names (printed_block run)) runs
+
+abbrev pub all_end : List (ℕ × Stream) → Bool
+all_end runs = list_all (λ (run : ℕ × Stream). is_end run.1.close) runs
+
+abbrev pub rows_of : List (ℕ × Stream) → ℕ
+rows_of runs = sum_by (λ (run : ℕ × Stream). length run.1.rows) runs
 
 -- what is written of a script above its answers: the journal, and how many answers follow
 abbrev pub opening_text : Script → List ℕ

@@ -1,20 +1,18 @@
 //! The answers to the asks of a script, evaluated and written one after the other.
-ghost use Rattle.std.specs.Prelude.{◌≡◌, ◌+◌, ◌-◌, ◌≤◌, ◌<◌, true, length, Err, IfOk, map};
-ghost use Rattle.std.specs.Arc.{arc_value};
-ghost use Rattle.std.specs.List.{All, flat_map, list_all, range_with_len, sum_by};
+ghost use Rattle.std.specs.Prelude.{◌≡◌, ◌+◌, ◌-◌, ◌≤◌, ◌<◌, true, length, Err, IfOk};
+ghost use Rattle.std.specs.List.{flat_map, list_all, range_with_len, sum_by};
 ghost use Rattle.act_model.specs.Journal.{contracts_of, is_known, book_of};
-ghost use Rattle.act_model.specs.Run.{Stream};
-ghost use Rattle.act_print.specs.Printed.{printed_answer};
-ghost use Rattle.act_print.specs.Text.{answer_text};
+ghost use Rattle.act_print.specs.Printed.{printed_answer, printed_block};
+ghost use Rattle.act_print.specs.Text.{answer_text, block_text};
 ghost use Rattle.act_profile.specs.Answers.{answer_to, answers_of};
 ghost use Rattle.act_profile.specs.Run.{run_of};
 ghost use Rattle.act_top.specs.Output.{ends_well, is_end, items_of, output_of, row_count};
-ghost use Rattle.act_top.specs.Ready.{AreAlone, runs_of};
+ghost use Rattle.act_top.specs.Ready.{AreAlone, all_end, rows_of, runs_asked, runs_text};
 ghost use Rattle.act_top.specs.Written.{Writes, faults_after};
 
 use crate::evaluation::Evaluation;
 use crate::journal::{CALLER, book_of};
-use crate::transcript::{write_answer, write_opening};
+use crate::transcript::{write_answer_head, write_opening, write_run};
 use crate::writing::Stop;
 use act_book::{Book, Snapshot};
 use act_io::Sink;
@@ -23,7 +21,6 @@ use act_num::{NoMemory, Steps};
 use act_portfolio::Portfolio;
 use act_run::{evaluate, run_without_children};
 use std::alloc::Global;
-use std::sync::Arc;
 use std::sync::ledger::Ledger;
 
 impl Evaluation {
@@ -109,59 +106,72 @@ impl Evaluation {
             ≡ steps.old + row_count (answer_to self.now.portfolio.contracts self.now.script.names book.now ask)) }
         ensures faults { K.faults out.new ≡ faults_after result (K.faults out.old) }
     {
-        let answer = self.answer(alloc, book, ask, steps)?;
-        let written = write_answer(out, line, self.names(), &answer);
-        let ended = all_end(&answer);
-        drop(answer);
-        match written {
-            Ok(()) => Ok(ended),
-            Err(stop) => Err(stop),
-        }
-    }
-
-    /// The answer to an ask over the entries of a book: the run of each contract asked.
-    fn answer<L: Ledger>(
-        &self,
-        alloc: Global,
-        book: &Book,
-        ask: Asking,
-        steps: &mut Steps<L>,
-    ) -> Result<Answer, NoMemory>
-        requires version { ask.version ≤ length book.now }
-        requires asked { is_known self.now.script.names (Step.Ask ask.asked) ≡ true }
-        ensures answer { IfOk result (λ answer. answer ≡ answer_to self.now.portfolio.contracts self.now.script.names book.now ask) }
-        ensures ticked { IfOk result (λ answer. steps.new ≡ steps.old + row_count answer) }
-    {
         let seen = book.snapshot(ask.version)?;
-        let runs = self.runs(alloc, &seen, ask.asked, steps)?;
-        Ok(Answer {
+        let head = Answer {
             caller: ask.caller,
             number: ask.number,
             version: ask.version,
-            runs,
-        })
+            runs: Vec::new(alloc),
+        };
+        let written = write_answer_head(out, line, &head);
+        drop(head);
+        written?;
+        self.write_blocks(alloc, out, line, &seen, ask.asked, steps)
     }
 
-    /// The runs of the contracts asked for over the entries that are seen, each with its contract.
-    fn runs<L: Ledger>(
+    /// Writes the blocks of the contracts asked for over the entries that are seen, and answers whether each ends in `end`.
+    /// Each contract is evaluated when its block is written, so that one run is held at a time.
+    fn write_blocks<K: Sink, L: Ledger>(
         &self,
         alloc: Global,
+        out: &mut K,
+        line: &mut Vec<u8>,
         seen: &Snapshot,
         asked: Asked,
         steps: &mut Steps<L>,
-    ) -> Result<Vec<(u32, Arc<Run, Global>)>, NoMemory>
+    ) -> Result<bool, Stop>
         requires { is_known self.now.script.names (Step.Ask asked) ≡ true }
-        ensures runs { IfOk result (λ runs. runs_of runs.items
-            ≡ map (λ c. (c, run_of self.now.portfolio.contracts seen.now c)) (contracts_of self.now.script.names asked)) }
-        ensures ticked { IfOk result (λ runs. steps.new ≡ steps.old + sum_by (λ run. length run.1.rows) (runs_of runs.items)) }
+        ensures text { Writes result (runs_text self.now.script.names (runs_asked self.now.portfolio.contracts self.now.script.names seen.now asked))
+            (K.written out.old) (K.written out.new) }
+        ensures ended { IfOk result (λ ended. ended ≡ all_end (runs_asked self.now.portfolio.contracts self.now.script.names seen.now asked)) }
+        ensures ticked { IfOk result (λ _. steps.new
+            ≡ steps.old + rows_of (runs_asked self.now.portfolio.contracts self.now.script.names seen.now asked)) }
+        ensures faults { K.faults out.new ≡ faults_after result (K.faults out.old) }
     {
         let (first, end) = self.numbers(asked);
-        let mut runs = Vec::new(alloc);
+        let mut ended = true;
         for contract in first..end {
-            let run = run_of(alloc, &self.portfolio, seen, contract, steps)?;
-            runs.push((contract, Arc::new(alloc, run)?))?;
+            let ends = self.write_block(alloc, out, line, seen, contract, steps)?;
+            ended &= ends;
         }
-        Ok(runs)
+        Ok(ended)
+    }
+
+    /// Writes the block of a contract over the entries that are seen, and answers whether it ends in `end`.
+    fn write_block<K: Sink, L: Ledger>(
+        &self,
+        alloc: Global,
+        out: &mut K,
+        line: &mut Vec<u8>,
+        seen: &Snapshot,
+        contract: u32,
+        steps: &mut Steps<L>,
+    ) -> Result<bool, Stop>
+        requires { contract < length self.now.portfolio.contracts.terms }
+        ensures text { Writes result (block_text self.now.script.names (printed_block (contract, run_of self.now.portfolio.contracts seen.now contract)))
+            (K.written out.old) (K.written out.new) }
+        ensures ended { IfOk result (λ ended. ended ≡ is_end (run_of self.now.portfolio.contracts seen.now contract).close) }
+        ensures ticked { IfOk result (λ _. steps.new ≡ steps.old + length (run_of self.now.portfolio.contracts seen.now contract).rows) }
+        ensures faults { K.faults out.new ≡ faults_after result (K.faults out.old) }
+    {
+        let run = run_of(alloc, &self.portfolio, seen, contract, steps)?;
+        let ends = is_end(&run.close);
+        let written = write_run(out, line, self.names(), contract, &run);
+        drop(run);
+        match written {
+            Ok(()) => Ok(ends),
+            Err(stop) => Err(stop),
+        }
     }
 
     /// The numbers of the contracts asked for: from one on, as far as to another.
@@ -196,20 +206,6 @@ fn run_of<L: Ledger>(
     run_without_children();
     let terms = &portfolio.terms()[contract as usize];
     evaluate(alloc, terms, portfolio.plan(contract), &[], seen, steps)
-}
-
-/// Whether each run of an answer ends in `end`.
-fn all_end(answer: &Answer) -> bool
-    ensures { result ≡ ends_well answer.now }
-{
-    are_ended(&answer.runs)
-}
-
-/// Whether each of some runs ends in `end`.
-fn are_ended(runs: &[(u32, Arc<Run, Global>)]) -> bool
-    ensures { result ≡ list_all (λ run. is_end (arc_value {X = Stream} run.1).close) runs.now }
-{
-    runs.iter().all(|run| is_end(&run.1.close))
 }
 
 /// Whether a run wasn't stopped.

@@ -1,14 +1,12 @@
 //! The text of a journal and its answers, written line by line.
 ghost use Rattle.std.specs.Prelude.{◌≡◌, ◌≤◌, ◌<◌, true, ◌++◌, length, Err};
-ghost use Rattle.std.specs.Arc.{arc_value};
 ghost use Rattle.std.specs.List.{All, flat_map};
 ghost use Rattle.act_model.specs.Journal.{is_known};
-ghost use Rattle.act_model.specs.Run.{Stream};
-ghost use Rattle.act_print.specs.Printed.{printed_answer, printed_block};
-ghost use Rattle.act_print.specs.Text.{answer_head_text, answer_text, answers_head_text, block_head_text, block_text, item_text, journal_head_text};
+ghost use Rattle.act_print.specs.Printed.{printed_block};
+ghost use Rattle.act_print.specs.Text.{answer_head_text, answers_head_text, block_head_text, block_text, item_text, journal_head_text};
 ghost use Rattle.act_text.specs.Lines.{close_text, row_text};
 ghost use Rattle.act_top.specs.Output.{items_of};
-ghost use Rattle.act_top.specs.Ready.{opening_text, runs_of};
+ghost use Rattle.act_top.specs.Ready.{opening_text};
 ghost use Rattle.act_top.specs.Written.{Writes, faults_after};
 
 use crate::journal::{CALLER, ask_count};
@@ -18,8 +16,6 @@ use act_io::Sink;
 use act_model::{Answer, Close, Item, Line, Names, Row, Rows, Run, Step};
 use act_print::{answer_head, answers_head, block_head, item_line, journal_head};
 use act_text::{close_line, row_line};
-use std::alloc::Global;
-use std::sync::Arc;
 
 /// Writes the journal of a script, and the line above its answers. `line` is room for a line, here and below.
 pub(crate) fn write_opening<K: Sink>(
@@ -108,23 +104,12 @@ fn write_item<K: Sink>(
     write_line(out, line)
 }
 
-/// Writes an answer: the line above it, and the block of each contract.
-pub(crate) fn write_answer<K: Sink>(
+/// Writes the line above an answer.
+pub(crate) fn write_answer_head<K: Sink>(
     out: &mut K,
     line: &mut Vec<u8>,
-    names: &Names,
     answer: &Answer,
 ) -> Result<(), Stop>
-    requires contracts { All (λ run. run.0 < length names.now.contracts) answer.now.runs }
-    ensures text { Writes result (answer_text names.now (printed_answer answer.now)) (K.written out.old) (K.written out.new) }
-    ensures faults { K.faults out.new ≡ faults_after result (K.faults out.old) }
-{
-    write_answer_head(out, line, answer)?;
-    write_runs(out, line, names, &answer.runs)
-}
-
-/// Writes the line above an answer.
-fn write_answer_head<K: Sink>(out: &mut K, line: &mut Vec<u8>, answer: &Answer) -> Result<(), Stop>
     ensures text { Writes result (answer_head_text answer.now.caller answer.now.number answer.now.version) (K.written out.old) (K.written out.new) }
     ensures faults { K.faults out.new ≡ faults_after result (K.faults out.old) }
 {
@@ -133,25 +118,8 @@ fn write_answer_head<K: Sink>(out: &mut K, line: &mut Vec<u8>, answer: &Answer) 
     write_line(out, line)
 }
 
-/// Writes the blocks of contracts with their runs.
-fn write_runs<K: Sink>(
-    out: &mut K,
-    line: &mut Vec<u8>,
-    names: &Names,
-    runs: &[(u32, Arc<Run, Global>)],
-) -> Result<(), Stop>
-    requires contracts { All (λ run. run.0 < length names.now.contracts) (runs_of runs.now) }
-    ensures text { Writes result (flat_map (λ run. block_text names.now (printed_block run)) (runs_of runs.now)) (K.written out.old) (K.written out.new) }
-    ensures faults { K.faults out.new ≡ faults_after result (K.faults out.old) }
-{
-    for run in runs {
-        write_run(out, line, names, run.0, &run.1)?;
-    }
-    Ok(())
-}
-
 /// Writes the block of a contract with its run.
-fn write_run<K: Sink>(
+pub(crate) fn write_run<K: Sink>(
     out: &mut K,
     line: &mut Vec<u8>,
     names: &Names,
