@@ -1,7 +1,17 @@
 -- Products and ratios, step by step.
-use Rattle.std.proofs.Common.{◌≡◌, ℕ, ◌*◌, ℤ, ◌*ℤ◌, Some, option_map, option_and_then, pos, negsuc, neg_ℤ, ◌<ℤ◌, unsigned_abs, refl, ap, ap₂, ◌∙◌, arith}
+use Rattle.std.proofs.Common.{◌≡◌, ℕ, ◌*◌, ◌≤◌, ℤ, ◌*ℤ◌, Some, option_map, option_and_then, pos, negsuc, neg_ℤ, ◌<ℤ◌, unsigned_abs, refl, ap, ap₂, ◌∙◌, arith}
+use Rattle.std.proofs.lemmas.Bool.Decides.{nat_tests}
 use Rattle.std.proofs.lemmas.Int.{ints}
-use Rattle.act_num.specs.Number.{number_in_range, rnd, one, mul_frac_of, nearest_quotient, ratio_of}
+use Rattle.std.proofs.lemmas.Nat.{mul-le}
+use Rattle.act_num.specs.Number.{InRange, largest, number_in_range, rnd, one, mul_frac_of, nearest_quotient, ratio_of}
+
+-- numbers of so many bits at most have a product in range
+pub small-product : (a b m n : ℕ) → a ≤ m → b ≤ n → m * n ≤ largest → a * b ≤ largest
+small-product a b m n le ge fits = omega (arith, mul-le a b m n le ge, fits)
+
+-- a number in range is kept
+pub kept_in_range : (z : ℤ) → InRange z → Some z ≡ number_in_range z
+kept_in_range z h = grind (arith, nat_tests)
 
 -- both products are in range, and the second one is rounded
 pub mul_frac_of_steps : (a b num : ℤ) (den : ℕ) (p q r : ℤ) → Some p ≡ number_in_range (a *ℤ b) → Some q ≡ number_in_range (p *ℤ num) → r ≡ rnd q (den * one) → Some r ≡ mul_frac_of a b num den

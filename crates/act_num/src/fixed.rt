@@ -1,5 +1,5 @@
 //! Amounts, rates and prices.
-ghost use Rattle.std.specs.Prelude.{◌≡◌, ◌≤◌, ◌*◌, ℤ, pos, ◌+ℤ◌, ◌-ℤ◌, ◌*ℤ◌, ◌<ℤ◌, ◌≤ℤ◌, neg_ℤ, unsigned_abs, IfSome};
+ghost use Rattle.std.specs.Prelude.{◌≡◌, ◌≤◌, ◌*◌, ℤ, pos, ◌+ℤ◌, ◌-ℤ◌, ◌*ℤ◌, ◌<ℤ◌, ◌≤ℤ◌, neg_ℤ, unsigned_abs, IfSome, IsTrue, Some};
 ghost use Rattle.std.specs.Int.{int_max, int_min};
 ghost use Rattle.act_num.specs.Number.{InRange, largest, number_in_range, one, rnd, add_of, sub_of, mul_of, mul_frac_of, ratio_of, clip_of};
 
@@ -12,6 +12,13 @@ pub(crate) const ONE_IN_UNITS: i128 = 1_000_000_000;
 
 /// The most units of a number.
 pub(crate) const LARGEST: u128 = (1 << 127) - 1;
+
+/// The first numbers past 31, 63 and 95 bits.
+const PAST_31: u128 = 1 << 31;
+
+const PAST_63: u128 = 1 << 63;
+
+const PAST_95: u128 = 1 << 95;
 
 /// A number in whole units of 10^-9, from `-(2^127 - 1)` to `2^127 - 1` of them.
 #[derive(Clone, Copy, PartialEq, Eq, PartialOrd, Ord)]
@@ -186,7 +193,30 @@ pub(crate) fn product(a: i128, b: i128) -> Option<i128>
     ensures value { result ≡ number_in_range (a *ℤ b) }
     ensures in_range { IfSome result InRange }
 {
+    if are_small(a, b) {
+        return Some(small_product(a, b));
+    }
     in_range(a.checked_mul(b)?)
+}
+
+/// Whether two numbers have so few bits that their product is in range.
+#[inline]
+fn are_small(a: i128, b: i128) -> bool
+    ensures { IsTrue result → unsigned_abs a * unsigned_abs b ≤ largest }
+{
+    let a = a.unsigned_abs();
+    let b = b.unsigned_abs();
+    (a < PAST_63 && b < PAST_63) || (a < PAST_95 && b < PAST_31)
+}
+
+/// The product of two numbers for which it is in range.
+#[inline]
+fn small_product(a: i128, b: i128) -> i128
+    requires { unsigned_abs a * unsigned_abs b ≤ largest }
+    ensures value { Some result ≡ number_in_range (a *ℤ b) }
+    ensures in_range { InRange result }
+{
+    a * b
 }
 
 /// The sum, or None where it is out of range.
