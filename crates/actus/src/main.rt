@@ -1,9 +1,11 @@
 //! The program `actus`: runs the command of its words, and ends with the number of its status.
 #![tactic(auto)]
 
-ghost use Rattle.std.specs.Prelude.{◌≡◌, ◌<◌, IfSome, map, string_bytes};
+ghost use Rattle.std.specs.Prelude.{◌≡◌, ◌≢◌, ◌<◌, IfSome, None, map, string_bytes};
+ghost use Rattle.act_io.specs.Faults.{next_count};
+ghost use Rattle.act_top.specs.Asked.{AsksFor};
 ghost use Rattle.act_top.specs.Command.{command_of};
-ghost use Rattle.act_top.specs.Output.{EndsAs, outcome_of};
+ghost use Rattle.act_top.specs.Output.{EndsAs, outcome_of, words_outcome};
 
 use act_io::{Files, RealFiles, Sink, StdSink};
 use act_num::Steps;
@@ -55,8 +57,17 @@ fn run<L: Ledger, F: Files, K: Sink>(
     requires name { blank.name ≡ L.name }
     requires parts { blank.parts ≡ L.parts }
     requires some_parts { 0 < L.parts }
-    ensures { IfSome (outcome_of (F.content files.old) (command_of (map string_bytes words.now)))
+    ensures outcome { IfSome (outcome_of (F.content files.old) (command_of (map string_bytes words.now)))
         (λ wanted. EndsAs wanted result (K.written out.old) (K.written out.new)) }
+    ensures words { result ≡ Status.Words → command_of (map string_bytes words.now) ≡ None }
+    ensures other_words { command_of (map string_bytes words.now) ≡ None →
+        EndsAs words_outcome result (K.written out.old) (K.written out.new) }
+    ensures asked { AsksFor (command_of (map string_bytes words.now)) result
+        (F.asked files.old) (F.asked files.new) (K.written out.old) (K.written out.new) }
+    ensures read_fault { result ≡ Status.ReadFault → F.faults files.new ≡ next_count (F.faults files.old) }
+    ensures no_read_fault { result ≢ Status.ReadFault → result ≢ Status.WriteFault → result ≢ Status.NoMemory → F.faults files.new ≡ F.faults files.old }
+    ensures write_fault { result ≡ Status.WriteFault → K.faults out.new ≡ next_count (K.faults out.old) }
+    ensures no_write_fault { result ≢ Status.WriteFault → K.faults out.new ≡ K.faults out.old }
 {
     let mut steps = Steps::<L>::new(blank);
     eval_top(alloc, words, files, out, &mut steps)
