@@ -1,5 +1,5 @@
 -- Runs of contracts from one number on, each with its contract.
-use Rattle.std.proofs.Common.{◌≡◌, ℕ, ◌+◌, ◌-◌, ◌<◌, ◌≤◌, List, [], ◌∷◌, map, suc, zero, refl, ap, ◌∙◌, arith}
+use Rattle.std.proofs.Common.{◌≡◌, ℕ, ◌+◌, ◌-◌, ◌<◌, ◌≤◌, List, [], ◌∷◌, map, suc, ap, arith}
 use Rattle.std.specs.List.{range_with_len}
 use Rattle.act_model.specs.Run.{Stream}
 

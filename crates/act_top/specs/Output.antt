@@ -1,6 +1,6 @@
 -- What the commands write, and the status that they end with. This profile's own.
-use Rattle.std.specs.Prelude.{◌≡◌, ℕ, ◌+◌, nat_lt, if◌then◌else◌, Bool, true, false, List, [], ◌∷◌, ◌++◌, length, map, take, codes, decimal, Option, Some, None, option_map, option_and_then, Result, Ok, Err, ⊤}
-use Rattle.std.specs.List.{count_by, filter_map, flat_map, list_all, range_with_len, sum, sum_by}
+use Rattle.std.specs.Prelude.{◌≡◌, ℕ, ◌+◌, nat_lt, if◌then◌else◌, Bool, true, false, List, [], ◌∷◌, ◌++◌, length, map, codes, decimal, Option, Some, None, option_map, option_and_then, Result, Ok, Err, ⊤}
+use Rattle.std.specs.List.{count_by, flat_map, list_all, range_with_len, sum, sum_by}
 use Rattle.act_io.specs.Put.{written_after}
 use Rattle.act_model.specs.Limits.{most_bytes}
 use Rattle.act_model.specs.Name.{has_form}
@@ -9,9 +9,7 @@ use Rattle.act_model.specs.Kind.{type_name, type_of}
 use Rattle.act_model.specs.declared.journal.Asked.TheVariants.{All}
 use Rattle.act_model.specs.declared.journal.Item.{Item}
 use Rattle.act_model.specs.declared.journal.Line.{Line}
-use Rattle.act_model.specs.declared.journal.Step.{Step}
 use Rattle.act_model.specs.declared.journal.Step.TheVariants.{Append, Ask}
-use Rattle.act_model.specs.declared.observed.Obs.{Obs}
 use Rattle.act_model.specs.declared.observed.Obs.TheVariants.{Event, Rate}
 use Rattle.act_model.specs.declared.run.Close.{Close}
 use Rattle.act_model.specs.declared.run.Close.TheVariants.{End, Missing, Overflow}

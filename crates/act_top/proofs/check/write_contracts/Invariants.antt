@@ -1,4 +1,4 @@
-use Rattle.std.proofs.Common.{◌≡◌, ◌≤◌, drop}
+use Rattle.std.proofs.Common.{◌≡◌, drop}
 use Rattle.act_top.specs.Output.{contracts_text}
 use Rattle.act_top.proofs.Texts.{Left}
 use Rattle.act_top.proofs.check.write_contracts.Given as goal

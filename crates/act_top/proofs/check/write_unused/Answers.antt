@@ -1,4 +1,4 @@
-use Rattle.std.proofs.Common.{refl, ◌∙◌, ap, arith, List, map, string_bytes, Global}
+use Rattle.std.proofs.Common.{refl, ◌∙◌, ap, List, map, string_bytes, Global}
 use Rattle.std.specs.List.{flat_map}
 use Rattle.std.specs.declared.string.String.{String}
 use Rattle.act_top.specs.Output.{unused_line}

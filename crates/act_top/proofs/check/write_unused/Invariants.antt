@@ -1,4 +1,4 @@
-use Rattle.std.proofs.Common.{◌≡◌, ◌≤◌, drop, map, string_bytes}
+use Rattle.std.proofs.Common.{◌≡◌, drop, map, string_bytes}
 use Rattle.std.specs.List.{flat_map}
 use Rattle.act_top.specs.Output.{unused_line}
 use Rattle.act_top.proofs.Texts.{Left}

@@ -1,4 +1,4 @@
-use Rattle.act_top.proofs.Halting.{none-unread, read-evaluates, read-refuses, still-asked, unread-refuses}
+use Rattle.act_top.proofs.Halting.{read-evaluates, read-refuses, still-asked, unread-refuses}
 use Rattle.act_top.proofs.job.evaluation_of.Goals as goal
 
 pub returns-in-Ok-clause-evaluation : goal.returns-in-Ok-clause-evaluation

@@ -1,4 +1,4 @@
-use Rattle.std.proofs.Common.{◌≡◌, ℕ, Err, List, None, ap, option_map, refl, subst, ◌∙◌}
+use Rattle.std.proofs.Common.{ℕ, Err, List, None, ap, option_map, refl, subst, ◌∙◌}
 use Rattle.std.specs.Prelude.{⊤}
 use Rattle.std.proofs.lemmas.Result.{err_from_is_err_and}
 use Rattle.std.proofs.lemmas.Option.{IfSome_then}

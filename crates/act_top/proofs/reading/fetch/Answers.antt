@@ -1,7 +1,6 @@
-use Rattle.std.proofs.Common.{List, ℕ, Err, Vec, Global, ap}
-use Rattle.act_io.specs.declared.files.FetchFault.{FetchFault}
+use Rattle.std.proofs.Common.{List, ℕ, Vec, Global}
 use Rattle.act_top.specs.Halts.{refusal_of}
-use Rattle.act_top.proofs.Readings.{same-asks, told-fault, unread-then}
+use Rattle.act_top.proofs.Readings.{same-asks, told-fault}
 use Rattle.act_top.proofs.reading.fetch.Goals as goal
 
 pub returns-in-Err-clause-told : goal.returns-in-Err-clause-told

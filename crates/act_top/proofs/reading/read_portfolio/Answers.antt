@@ -1,9 +1,8 @@
-use Rattle.std.proofs.Common.{Err, List, ℕ, arith, ap, ◌∙◌}
+use Rattle.std.proofs.Common.{Err, arith, ap, ◌∙◌}
 use Rattle.std.proofs.lemmas.Result.{err_from_is_err_and}
 use Rattle.act_top.specs.Output.{portfolio_accepted, portfolio_read}
 use Rattle.act_top.specs.declared.halt.Halt.{Halt}
-use Rattle.act_portfolio.specs.Reading.{Accepted}
-use Rattle.act_top.proofs.Readings.{told-read, told-unread, unread-then}
+use Rattle.act_top.proofs.Readings.{told-read, told-unread}
 use Rattle.act_top.proofs.reading.read_portfolio.Goals as goal
 
 pub returns-in_err-bytes-clause-told : goal.returns-in_err-bytes-clause-told

@@ -1,4 +1,4 @@
-use Rattle.std.proofs.Common.{refl, ◌∙◌, ap, arith, List}
+use Rattle.std.proofs.Common.{refl, ◌∙◌, ap, List}
 use Rattle.std.specs.List.{flat_map}
 use Rattle.act_model.specs.declared.journal.Line.{Line}
 use Rattle.act_print.specs.Text.{item_text}

@@ -1,4 +1,4 @@
-use Rattle.std.proofs.Common.{ap, ◌∙◌, arith}
+use Rattle.std.proofs.Common.{ap}
 use Rattle.act_model.specs.Run.{Stream}
 use Rattle.act_top.proofs.Blocks.{block-parts}
 use Rattle.act_top.proofs.Texts.{part-behind, part-first, then-text, writes-behind, writes-first}
