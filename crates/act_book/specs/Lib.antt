@@ -1,1 +1,4 @@
 pub mod Entries
+pub mod Order
+pub mod Rates
+pub mod Runs

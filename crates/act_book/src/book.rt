@@ -1,14 +1,19 @@
-//! A book of observations, and what is seen of it.
-ghost use Rattle.std.specs.Prelude.{◌≡◌, ◌≤◌, ◌↔◌, [], ◌∷◌, ◌++◌, Err, true, length, take, slice_get, IfOk, IfErr, IfSome};
-ghost use Rattle.act_model.specs.Observed.{is_entry, observation, observed_events};
-ghost use Rattle.act_book.specs.Entries.{AreEntries};
+//! A book of observations.
+ghost use Rattle.std.specs.Prelude.{◌≡◌, ◌≤◌, ◌+◌, ◌*◌, ◌↔◌, [], ◌∷◌, ◌++◌, Err, true, length, take, IfOk, IfErr};
+ghost use Rattle.act_model.specs.Observed.{is_entry};
+ghost use Rattle.act_book.specs.Runs.{AreRuns, EndsAt};
 ghost use Rattle.act_book.specs.declared.book.BookFault.TheVariants.{BookFull};
 
-use act_date::Day;
-use act_model::{Listed, MOST_ENTRIES, Obs, Observed};
-use act_num::{Fixed, NoMemory};
+use crate::run::Run;
+use crate::snapshot::Snapshot;
+use act_model::{MOST_ENTRIES, Obs};
+use act_num::NoMemory;
 use std::alloc::Global;
 use std::marker::Model;
+use std::sync::Arc;
+
+/// How many entries a chunk has. A run has one chunk, two, four, and so on.
+pub const CHUNK: usize = 256;
 
 /// Why an entry isn't added.
 #[derive(Clone, Copy, Debug, PartialEq, Eq)]
@@ -23,6 +28,9 @@ pub enum BookFault {
 #[derive(Drop)]
 pub struct Book {
     entries: Vec<Obs>,
+    /// For each full chunk the run that ends with it. The run of chunk n, counted from 1, has as many chunks as the greatest
+    /// power of two that divides n, so that the first n chunks are at most twelve runs.
+    runs: Vec<Arc<Run, Global>>,
 }
 
 impl Model for Book {
@@ -30,12 +38,13 @@ impl Model for Book {
     ghost use Rattle.std.specs.Prelude.{◌≤◌, List, length};
     ghost use Rattle.act_model.specs.declared.observed.Obs.{Obs};
     ghost use Rattle.act_book.specs.Entries.{AreEntries};
+    ghost use Rattle.act_book.specs.Runs.{AreRuns};
 
     ghost Value = { List Obs };
 
     ghost view = { λ b. b.entries.items };
 
-    ghost invariant = { λ b. AreEntries b.entries.items × (length b.entries.items ≤ most_entries) };
+    ghost invariant = { λ b. AreEntries b.entries.items × (length b.entries.items ≤ most_entries) × AreRuns b.entries.items b.runs.items };
 }
 
 impl Book {
@@ -45,6 +54,7 @@ impl Book {
     {
         Book {
             entries: Vec::new(alloc),
+            runs: Vec::new(alloc),
         }
     }
 
@@ -68,10 +78,26 @@ impl Book {
         if self.len() == MOST_ENTRIES {
             return Err(BookFault::BookFull);
         }
+        let Ok(()) = self.close_chunk() else {
+            return Err(BookFault::NoMemory);
+        };
         let Ok(_) = self.entries.push(entry) else {
             return Err(BookFault::NoMemory);
         };
         Ok(self.len())
+    }
+
+    /// Makes the run that ends with the last full chunk, where there is none yet.
+    fn close_chunk(&mut self) -> Result<(), NoMemory>
+        ensures { self.new ≡ self.old }
+    {
+        if self.entries.len() / CHUNK <= self.runs.len() {
+            return Ok(());
+        }
+        let run = next_run(&self.entries, &self.runs)?;
+        let run = Arc::new(*self.entries.allocator(), run)?;
+        self.runs.push(run)?;
+        Ok(())
     }
 
     /// The first `v` entries, as they stay whatever is added later.
@@ -79,54 +105,28 @@ impl Book {
         requires within { v ≤ length self.now }
         ensures { IfOk result (λ seen. seen ≡ take v self.now) }
     {
-        let mut first = Vec::new(*self.entries.allocator());
-        first.extend_from_slice(&self.entries[..v as usize])?;
-        Ok(Snapshot {
-            seen: Listed::new(first),
-        })
+        Snapshot::first(&self.entries, &self.runs, v)
     }
 }
 
-/// The first entries of a book.
-#[derive(Drop)]
-pub struct Snapshot {
-    seen: Listed,
-}
-
-impl Model for Snapshot {
-    ghost use Rattle.std.specs.Prelude.{List};
-    ghost use Rattle.act_model.specs.declared.observed.Obs.{Obs};
-    ghost use Rattle.act_book.specs.Entries.{AreEntries};
-
-    ghost Value = { List Obs };
-
-    ghost view = { λ s. s.seen };
-
-    ghost invariant = { λ s. AreEntries s.seen };
-}
-
-impl Observed for Snapshot {
-    ghost entries = { λ s. s };
-
-    fn version(&self) -> u64 {
-        self.seen.version()
+/// The run that ends with the first chunk that no run ends with. It takes in each run before it that is as long as it.
+fn next_run(entries: &Vec<Obs>, runs: &[Arc<Run, Global>]) -> Result<Run, NoMemory>
+    requires runs { AreRuns entries.now.items runs.now }
+    requires chunk { CHUNK * (length runs.now + 1) ≤ length entries.now.items }
+    ensures { IfOk result (λ run. EndsAt entries.now.items (length runs.now + 1) run) }
+{
+    let mut front = runs.len();
+    let mut chunks = 1;
+    let chunk = &entries[front * CHUNK..(front + 1) * CHUNK];
+    let mut run = Run::new(*entries.allocator(), chunk)?;
+    while front > 0 {
+        let before = &runs[front - 1];
+        if before.entries().len() != chunks * CHUNK {
+            break;
+        }
+        run = before.joined(&run)?;
+        front -= chunks;
+        chunks *= 2;
     }
-
-    fn entry(&self, place: u64) -> Option<Obs>
-        ensures place { result ≡ slice_get self.now place }
-        ensures entry { IfSome result (λ entry. is_entry entry ≡ true) }
-    {
-        self.seen.entry(place)
-    }
-
-    fn value(&self, code: u32, day: Day) -> Option<Fixed> {
-        self.seen.value(code, day)
-    }
-
-    fn events_of(&self, alloc: Global, contract: u32) -> Result<Vec<Obs>, NoMemory>
-        ensures events { IfOk result (λ events. events.items ≡ observed_events self.now contract) }
-        ensures entries { IfOk result (λ events. AreEntries events.items) }
-    {
-        self.seen.events_of(alloc, contract)
-    }
+    Ok(run)
 }
