@@ -6,8 +6,8 @@ ghost use Rattle.act_model.specs.Names.{AreFew, no_names, number_of, place_of, w
 
 use crate::limits::MOST_NAMES;
 use act_num::NoMemory;
-use indexmap::IndexSet;
 use std::alloc::Global;
+use std::collections::BTreeMap;
 use std::marker::Model;
 
 /// The names of contracts, of market objects, which are called codes, and of currencies. A name's number is its
@@ -28,21 +28,25 @@ impl Model for Names {
     ghost view = { λ n. record { contracts = n.contracts; codes = n.codes; currencies = n.currencies } };
 }
 
-/// Names of one sort, in the order in which they were added, at most 134,217,727.
+/// Names of one sort, in the order in which they were added, at most 134,217,727, and the number of each. The numbers are in a
+/// tree, so that no choice of names makes a look-up slow.
 #[derive(Drop)]
 struct NameList {
-    texts: IndexSet<String>,
+    texts: Vec<String>,
+    numbers: BTreeMap<String, u32>,
 }
 
 impl Model for NameList {
-    ghost use Rattle.std.specs.Prelude.{ℕ, List, map, string_bytes};
-    ghost use Rattle.act_model.specs.Names.{AreNames};
+    ghost use Rattle.std.specs.Prelude.{◌≡◌, ℕ, List, map, string_bytes};
+    ghost use Rattle.std.specs.BTreeMap.{get_by_text};
+    ghost use Rattle.act_model.specs.Names.{AreNames, place_of};
 
     ghost Value = { List (List ℕ) };
 
-    ghost view = { λ n. map string_bytes n.texts.keys };
+    ghost view = { λ n. map string_bytes n.texts.items };
 
-    ghost invariant = { λ n. AreNames (map string_bytes n.texts.keys) };
+    ghost invariant = { λ n. AreNames (map string_bytes n.texts.items)
+        × ((name : List ℕ) → get_by_text n.numbers name ≡ place_of name (map string_bytes n.texts.items)) };
 }
 
 impl Names {
@@ -165,7 +169,8 @@ impl NameList {
         ensures { result ≡ [] }
     {
         NameList {
-            texts: IndexSet::new(alloc),
+            texts: Vec::new(alloc),
+            numbers: BTreeMap::new(alloc),
         }
     }
 
@@ -175,17 +180,15 @@ impl NameList {
         ensures name { IfSome result (λ s. is_name s.now ≡ true) }
         ensures number { IfSome result (λ s. place_of s.now self.now ≡ Some number) }
     {
-        let text = self.texts.get_index(number as usize)?;
+        let text = self.texts.get(number as usize)?;
         Some(text.as_str())
     }
 
     /// The number of that name.
-    #[tactic(auto, using(crate::proofs::NamePlaces::place_among))]
     fn number(&self, name: &str) -> Option<u32>
         ensures { result ≡ place_of name.now self.now }
     {
-        let place = self.texts.get_index_of(name)?;
-        Some(place as u32)
+        self.numbers.get(name).copied()
     }
 
     /// Adds a name, which isn't there yet, behind the others, and gives its number. NoMemory also where there are as
@@ -201,8 +204,14 @@ impl NameList {
             return Err(NoMemory);
         }
         let number = self.texts.len() as u32;
-        let text = String::from_str(*self.texts.allocator(), name)?;
-        let Ok(_) = self.texts.insert(text) else {
+        let alloc = *self.texts.allocator();
+        let text = String::from_str(alloc, name)?;
+        let key = String::from_str(alloc, name)?;
+        let Ok(_) = self.texts.push(text) else {
+            return Err(NoMemory);
+        };
+        let Ok(_) = self.numbers.insert(key, number) else {
+            self.texts.truncate(number as usize);
             return Err(NoMemory);
         };
         Ok(number)
@@ -227,6 +236,7 @@ impl NameList {
         ensures few { IfOk result (λ names. length names ≤ MOST_NAMES) }
     {
         let texts = self.texts.clone()?;
-        Ok(NameList { texts })
+        let numbers = self.numbers.clone()?;
+        Ok(NameList { texts, numbers })
     }
 }
