@@ -1,8 +1,10 @@
 -- What is asked of the terms of a contract, kind by kind, as far as kinds are built: each cycle that they give leads on, so its period has at
 -- least one unit. A kind that isn't built satisfies nothing. This profile's own.
+use Rattle.std.specs.Prelude.{◌≡◌, int_lt, ℤ, pos, true, IsTrue, is_some, Option, Some, None}
 use Rattle.std.specs.Option.{ForSome}
 use Rattle.act_model.specs.declared.terms.Kind.{Kind}
-use Rattle.act_model.specs.declared.terms.Kind.TheVariants.{PAM, STK}
+use Rattle.act_model.specs.declared.terms.Kind.TheVariants.{PAM, LAM, NAM, ANN, STK}
+use Rattle.act_model.specs.declared.terms.Lam.{Lam}
 use Rattle.act_model.specs.declared.terms.Loan.{Loan}
 use Rattle.act_model.specs.declared.terms.Redemption.{Redemption}
 use Rattle.act_profile.specs.LoanTerms.{LoanTerms}
@@ -25,8 +27,25 @@ pub record CyclesLeadOn (l : LoanTerms) : Type 0 where
   pub loan : LoanLeadsOn l.loan
   pub redemption : ForSome l.redemption RedemptionLeadsOn
 
+-- what is asked of a loan whose principal is redeemed: its cycles lead on
+pub record AmortizingLeadsOn (l : Loan) (r : Redemption) : Type 0 where
+  pub loan : LoanLeadsOn l
+  pub redemption : RedemptionLeadsOn r
+
+-- what is asked of a LAM besides: without a maturity its payment is above 0, and there is a cycle
+abbrev pub DerivesMaturity : Lam → Option ℤ → Type 0
+DerivesMaturity lam (Some maturity) = Unit {0}
+DerivesMaturity lam None = ForSome lam.next_principal_redemption_payment (λ payment. int_lt (pos 0) payment ≡ true) × (IsTrue (is_some lam.next_principal_redemption_payment)) × (IsTrue (is_some lam.redemption.cycle_of_principal_redemption))
+
+pub record LamIsBuilt (lam : Lam) : Type 0 where
+  pub cycles : AmortizingLeadsOn lam.loan lam.redemption
+  pub maturity : DerivesMaturity lam lam.maturity_date
+
 -- the terms of a kind that is built
 abbrev pub IsBuilt : Kind → Type 0
 IsBuilt (PAM pam) = LoanLeadsOn pam.loan
+IsBuilt (LAM lam) = LamIsBuilt lam
+IsBuilt (NAM nam) = AmortizingLeadsOn nam.loan nam.redemption
+IsBuilt (ANN ann) = AmortizingLeadsOn ann.loan ann.redemption
 IsBuilt (STK stk) = Unit {0}
 IsBuilt other = ⊥

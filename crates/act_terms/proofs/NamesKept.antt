@@ -6,13 +6,14 @@ use Rattle.act_model.specs.Names.{NameLists}
 use Rattle.act_model.specs.declared.choice.ContractType.{ContractType}
 use Rattle.act_model.specs.declared.choice.ContractType.TheVariants as type
 use Rattle.act_profile.specs.Outcomes.{then_ok}
-use Rattle.act_json.specs.Fields.{word_field}
+use Rattle.act_json.specs.Fields.{decimal_field, word_field}
 use Rattle.act_terms.specs.Choices.{scaling_effect_named}
 use Rattle.act_terms.specs.Common.{business_days_of, common_of, position_of, trades_of}
-use Rattle.act_terms.specs.Contract.{NamedTerms, contract_type, named_terms_of, pam_terms_of, stk_terms_of, terms_of}
+use Rattle.act_terms.specs.Contract.{NamedTerms, ann_terms_of, contract_type, lam_terms_of, nam_terms_of, named_terms_of, pam_terms_of, stk_terms_of, terms_of}
 use Rattle.act_terms.specs.Fields.{choice_field, day_after, needed, needed_day, needed_where, not_negative, optional, optional_cycle, optional_day, optional_decimal, positive}
 use Rattle.act_terms.specs.Loan.{fee_of, interest_dates_of, interest_of, loan_of, no_effect, pam_of, penalty_of, rate_limits_of, rate_reset_of, reset_code_for, scales, scaling_of}
 use Rattle.act_terms.specs.Names.{code_where, contract_id, currencies_of, currency_field, numbered, numbered_currencies, pair_name}
+use Rattle.act_terms.specs.Redemption.{ann_of, calculation_base_of, lam_of, lam_payment_of, nam_of, redemption_dates_of}
 use Rattle.act_terms.specs.declared.fault.TermsFault.{TermsFault}
 use Rattle.serde_json.specs.Data.{Data}
 
@@ -104,11 +105,56 @@ module _ (contracts : List (List ℕ)) (names : NameLists) (at : names.contracts
       plain contracts _ (needed (codes "maturityDate") (day_after exchange (codes "maturityDate") contract)) (λ maturity.
       naming contracts _ (loan_of exchange names contract) (loan_keeps exchange) (λ loan at. at)))
 
+module _ (contracts : List (List ℕ)) (names : NameLists) (at : names.contracts ≡ contracts) (contract : Data) where
+  lam_keeps : Keeps contracts (lam_of names contract)
+  unfolding lam_of
+  lam_keeps =
+      plain contracts _ (needed_day (codes "initialExchangeDate") contract) (λ exchange.
+      plain contracts _ (optional (codes "maturityDate") (day_after exchange (codes "maturityDate") contract)) (λ maturity.
+      naming contracts _ (loan_of exchange names contract) (loan_keeps contracts names at contract exchange) (λ loan at.
+      plain contracts _ (redemption_dates_of (is_some maturity) contract) (λ dates.
+      plain contracts _ (lam_payment_of maturity contract) (λ payment.
+      plain contracts _ (calculation_base_of contract) (λ base. at))))))
+
+  nam_keeps : Keeps contracts (nam_of names contract)
+  unfolding nam_of
+  nam_keeps =
+      naming contracts _ (pam_of names contract) (pam_keeps contracts names at contract) (λ pam at.
+      plain contracts _ (redemption_dates_of true contract) (λ dates.
+      plain contracts _ (needed (codes "nextPrincipalRedemptionPayment") (decimal_field (codes "nextPrincipalRedemptionPayment") contract)) (λ payment.
+      plain contracts _ (calculation_base_of contract) (λ base. at))))
+
+  ann_keeps : Keeps contracts (ann_of names contract)
+  unfolding ann_of
+  ann_keeps =
+      naming contracts _ (pam_of names contract) (pam_keeps contracts names at contract) (λ pam at.
+      plain contracts _ (redemption_dates_of true contract) (λ dates.
+      plain contracts _ (optional_decimal (codes "nextPrincipalRedemptionPayment") contract) (λ payment.
+      plain contracts _ (calculation_base_of contract) (λ base. at))))
+
 pam_terms_keep : (number : ℕ) (names : NameLists) (contract : Data) → Keeps names.contracts (pam_terms_of number names contract)
 unfolding pam_terms_of
 pam_terms_keep number names contract =
     naming names.contracts _ (common_of number names contract) (common_keeps names.contracts names refl contract number) (λ common at.
     naming names.contracts _ (pam_of common.1 contract) (pam_keeps names.contracts common.1 at contract) (λ pam at. at))
+
+lam_terms_keep : (number : ℕ) (names : NameLists) (contract : Data) → Keeps names.contracts (lam_terms_of number names contract)
+unfolding lam_terms_of
+lam_terms_keep number names contract =
+    naming names.contracts _ (common_of number names contract) (common_keeps names.contracts names refl contract number) (λ common at.
+    naming names.contracts _ (lam_of common.1 contract) (lam_keeps names.contracts common.1 at contract) (λ lam at. at))
+
+nam_terms_keep : (number : ℕ) (names : NameLists) (contract : Data) → Keeps names.contracts (nam_terms_of number names contract)
+unfolding nam_terms_of
+nam_terms_keep number names contract =
+    naming names.contracts _ (common_of number names contract) (common_keeps names.contracts names refl contract number) (λ common at.
+    naming names.contracts _ (nam_of common.1 contract) (nam_keeps names.contracts common.1 at contract) (λ nam at. at))
+
+ann_terms_keep : (number : ℕ) (names : NameLists) (contract : Data) → Keeps names.contracts (ann_terms_of number names contract)
+unfolding ann_terms_of
+ann_terms_keep number names contract =
+    naming names.contracts _ (common_of number names contract) (common_keeps names.contracts names refl contract number) (λ common at.
+    naming names.contracts _ (ann_of common.1 contract) (ann_keeps names.contracts common.1 at contract) (λ ann at. at))
 
 stk_terms_keep : (number : ℕ) (names : NameLists) (contract : Data) → Keeps names.contracts (stk_terms_of number names contract)
 unfolding stk_terms_of
@@ -118,6 +164,9 @@ stk_terms_keep number names contract =
 terms_keep : (type : ContractType) (number : ℕ) (names : NameLists) (contract : Data) → Keeps names.contracts (terms_of type number names contract)
 unfolding terms_of
 terms_keep type.PAM number names contract = pam_terms_keep number names contract
+terms_keep type.LAM number names contract = lam_terms_keep number names contract
+terms_keep type.NAM number names contract = nam_terms_keep number names contract
+terms_keep type.ANN number names contract = ann_terms_keep number names contract
 terms_keep type.STK number names contract = stk_terms_keep number names contract
 terms_keep other number names contract = tt
 

@@ -1,5 +1,5 @@
 -- Names among those of terms.
-use Rattle.std.proofs.Common.{◌≡◌, ℕ, Bool, true, ◌||◌, List, [], ◌∷◌, ◌++◌, map, not, Some, refl, sym, ap, ◌∙◌}
+use Rattle.std.proofs.Common.{◌≡◌, ℕ, Bool, ◌||◌, ◌⊎◌, inl, inr, List, [], ◌∷◌, ◌++◌, map, not, Some, refl, ap, ◌∙◌}
 use Rattle.std.proofs.lemmas.List.Folds.{list_any-append}
 use Rattle.std.specs.List.{filter, list_any}
 use Rattle.std.specs.Str.{bytes_eq}
@@ -7,24 +7,32 @@ use Rattle.act_model.specs.declared.choice.ContractType.{ContractType}
 use Rattle.act_model.specs.declared.choice.ContractType.TheVariants as type
 use Rattle.serde_json.specs.Data.{Data, object, Members}
 use Rattle.serde_json.specs.Find.{as_object}
-use Rattle.act_terms.specs.Used.{common_terms, is_among, is_term_of, loan_terms, member_names, terms_named, unused_names}
+use Rattle.act_terms.specs.Used.{common_terms, is_among, is_term_of, loan_terms, member_names, own_terms, redemption_terms, unused_names}
 
 pub list_any-map : {X Y : Type 0} (p : Y → Bool) (f : X → Y) (xs : List X) → list_any (λ x. p (f x)) xs ≡ list_any p (map f xs)
 list_any-map p f [] = refl
 list_any-map p f (x ∷ xs) = ap (λ b. p (f x) || b) (list_any-map p f xs)
 
+-- a name is among two lists where it is among the one or the other
+pub among_both : (first second : List (List ℕ)) (name : List ℕ) → is_among (first ++ second) name ≡ (is_among first name || is_among second name)
+among_both first second name = list_any-append (λ n. bytes_eq n name) first second
+
 -- a term of a type is one that every contract has, or one of its own
-pub terms_are : (type : ContractType) (own : List (List ℕ)) (name : List ℕ) → common_terms ++ own ≡ terms_named type → is_term_of type name ≡ (is_among common_terms name || is_among own name)
+pub term_is : (type : ContractType) (name : List ℕ) → is_term_of type name ≡ (is_among common_terms name || is_among (own_terms type) name)
 unfolding is_term_of
-terms_are type own name are = ap (λ names. is_among names name) (sym are) ∙ list_any-append (λ n. bytes_eq n name) common_terms own
+term_is type name = among_both common_terms (own_terms type) name
 
-own_of : (type : ContractType) → (own : List (List ℕ)) × (common_terms ++ own ≡ terms_named type)
-own_of type.PAM = (loan_terms, refl)
-own_of other = ([], refl)
+-- the terms of a loan whose principal is redeemed are those that all loans have, and those of redemption
+abbrev Redeems : ContractType → Type 0
+Redeems given = (given ≡ type.LAM) ⊎ ((given ≡ type.NAM) ⊎ (given ≡ type.ANN))
 
-pub common_is_term : (type : ContractType) (name : List ℕ) → is_among common_terms name ≡ true → is_term_of type name ≡ true
-common_is_term type name common =
-    let own = own_of type in terms_are type own.0 name own.1 ∙ ap (λ b. b || is_among own.0 name) common
+own_of : (type : ContractType) → Redeems type → own_terms type ≡ loan_terms ++ redemption_terms
+own_of type (inl is) = ap own_terms is
+own_of type (inr (inl is)) = ap own_terms is
+own_of type (inr (inr is)) = ap own_terms is
+
+pub own_is : (type : ContractType) (name : List ℕ) → Redeems type → is_among (own_terms type) name ≡ (is_among loan_terms name || is_among redemption_terms name)
+own_is type name redeems = ap (λ names. is_among names name) (own_of type redeems) ∙ among_both loan_terms redemption_terms name
 
 -- the names of an object that aren't among them
 pub unused_of : (type : ContractType) (value : Data) (inner : Members) → Some inner ≡ as_object value → unused_names type value ≡ filter (λ name. not (is_term_of type name)) (member_names inner)

@@ -13,6 +13,8 @@ use Rattle.act_model.specs.declared.choice.ContractRole.{ContractRole}
 use Rattle.act_model.specs.declared.choice.ContractRole.TheVariants as role
 use Rattle.act_model.specs.declared.choice.FeeBasis.{FeeBasis}
 use Rattle.act_model.specs.declared.choice.FeeBasis.TheVariants as basis
+use Rattle.act_model.specs.declared.choice.InterestCalculationBase.{InterestCalculationBase}
+use Rattle.act_model.specs.declared.choice.InterestCalculationBase.TheVariants.{NT, NTIED, NTL}
 use Rattle.act_model.specs.declared.choice.PenaltyType.{PenaltyType}
 use Rattle.act_model.specs.declared.choice.PenaltyType.TheVariants as penalty
 use Rattle.act_model.specs.declared.choice.ScalingEffect.{ScalingEffect}
@@ -51,6 +53,10 @@ fee_basis_named text = among ((codes "A", basis.A) ∷ (codes "N", basis.N) ∷ 
 -- penaltyType
 unfoldable pub penalty_type_named : List ℕ → Option PenaltyType
 penalty_type_named text = among ((codes "O", penalty.O) ∷ (codes "A", penalty.A) ∷ (codes "N", penalty.N) ∷ (codes "I", penalty.I) ∷ []) text
+
+-- interestCalculationBase
+unfoldable pub calculation_base_named : List ℕ → Option InterestCalculationBase
+calculation_base_named text = among ((codes "NT", NT) ∷ (codes "NTIED", NTIED) ∷ (codes "NTL", NTL) ∷ []) text
 
 -- scalingEffect: three letters, the first I, O or 0, the second N, O or 0, the third O or 0
 abbrev pub is_none : ℕ → Bool

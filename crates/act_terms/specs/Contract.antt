@@ -12,6 +12,7 @@ use Rattle.act_terms.specs.Fault.{◌>>=◌, no_object, refused}
 use Rattle.act_terms.specs.Fields.{needed}
 use Rattle.act_terms.specs.Loan.{pam_of}
 use Rattle.act_terms.specs.Names.{contract_id}
+use Rattle.act_terms.specs.Redemption.{ann_of, lam_of, nam_of}
 use Rattle.act_terms.specs.declared.fault.TermCause.TheVariants.{NotBuilt, UnknownKind}
 use Rattle.act_terms.specs.declared.fault.TermsFault.{TermsFault}
 use Rattle.serde_json.specs.Data.{Data, object}
@@ -39,15 +40,39 @@ pam_terms_of number names contract = do
   pam ← pam_of common.1 contract
   Ok (record { common = common.0; kind = kind.PAM pam.0 }, pam.1)
 
+-- the terms of a LAM
+unfoldable pub lam_terms_of : ℕ → NameLists → Data → Result (Terms × NameLists) TermsFault
+lam_terms_of number names contract = do
+  common ← common_of number names contract
+  lam ← lam_of common.1 contract
+  Ok (record { common = common.0; kind = kind.LAM lam.0 }, lam.1)
+
+-- the terms of a NAM
+unfoldable pub nam_terms_of : ℕ → NameLists → Data → Result (Terms × NameLists) TermsFault
+nam_terms_of number names contract = do
+  common ← common_of number names contract
+  nam ← nam_of common.1 contract
+  Ok (record { common = common.0; kind = kind.NAM nam.0 }, nam.1)
+
+-- the terms of an ANN
+unfoldable pub ann_terms_of : ℕ → NameLists → Data → Result (Terms × NameLists) TermsFault
+ann_terms_of number names contract = do
+  common ← common_of number names contract
+  ann ← ann_of common.1 contract
+  Ok (record { common = common.0; kind = kind.ANN ann.0 }, ann.1)
+
 -- the terms of a STK, which has none of its own
 unfoldable pub stk_terms_of : ℕ → NameLists → Data → Result (Terms × NameLists) TermsFault
 stk_terms_of number names contract = do
   common ← common_of number names contract
   Ok (record { common = common.0; kind = kind.STK (record {}) }, common.1)
 
--- the terms of a type; those of another type than PAM and STK aren't read yet
+-- the terms of a type; those of another type than these aren't read yet
 unfoldable pub terms_of : ContractType → ℕ → NameLists → Data → Result (Terms × NameLists) TermsFault
 terms_of type.PAM number names contract = pam_terms_of number names contract
+terms_of type.LAM number names contract = lam_terms_of number names contract
+terms_of type.NAM number names contract = nam_terms_of number names contract
+terms_of type.ANN number names contract = ann_terms_of number names contract
 terms_of type.STK number names contract = stk_terms_of number names contract
 terms_of other number names contract = refused NotBuilt (codes "contractType")
 

@@ -57,6 +57,10 @@ optional_decimal term contract = optional term (decimal_field term contract)
 unfoldable pub optional_cycle : List ℕ → Data → Result (Option Cycle) TermsFault
 optional_cycle term contract = optional term (cycle_field term contract)
 
+-- the cycle of a term that is required where something holds
+unfoldable pub cycle_where : Bool → List ℕ → Data → Result (Option Cycle) TermsFault
+cycle_where wanted term contract = needed_where wanted term (cycle_field term contract)
+
 -- the day of a term that is required
 unfoldable pub needed_day : List ℕ → Data → Result ℤ TermsFault
 needed_day term contract = needed term (day_field term contract)

@@ -5,5 +5,6 @@ pub mod Fault
 pub mod Fields
 pub mod Loan
 pub mod Names
+pub mod Redemption
 pub mod Refusal
 pub mod Used

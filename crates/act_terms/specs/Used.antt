@@ -21,14 +21,27 @@ loan_terms =
     ∷ codes "feeBasis" ∷ codes "feeAccrued" ∷ codes "scalingEffect" ∷ codes "cycleAnchorDateOfScalingIndex" ∷ codes "cycleOfScalingIndex" ∷ codes "marketObjectCodeOfScalingIndex" ∷ codes "scalingIndexAtContractDealDate"
     ∷ codes "penaltyType" ∷ codes "penaltyRate" ∷ []
 
+-- the terms of redemption, of a loan whose principal is redeemed
+abbrev pub redemption_terms : List (List ℕ)
+redemption_terms =
+    codes "cycleAnchorDateOfPrincipalRedemption" ∷ codes "cycleOfPrincipalRedemption" ∷ codes "nextPrincipalRedemptionPayment" ∷ codes "interestCalculationBase" ∷ codes "interestCalculationBaseAmount"
+    ∷ codes "cycleAnchorDateOfInterestCalculationBase" ∷ codes "cycleOfInterestCalculationBase" ∷ []
+
 -- a name is one of some names
 abbrev pub is_among : List (List ℕ) → List ℕ → Bool
 is_among names name = list_any (λ n. bytes_eq n name) names
 
--- the terms of a type; of a type that isn't read yet those that every contract has
+-- the terms of a type beside those that every contract has; of a type that isn't read yet there are none
+abbrev pub own_terms : ContractType → List (List ℕ)
+own_terms type.PAM = loan_terms
+own_terms type.LAM = loan_terms ++ redemption_terms
+own_terms type.NAM = loan_terms ++ redemption_terms
+own_terms type.ANN = loan_terms ++ redemption_terms
+own_terms other = []
+
+-- the terms of a type
 abbrev pub terms_named : ContractType → List (List ℕ)
-terms_named type.PAM = common_terms ++ loan_terms
-terms_named other = common_terms
+terms_named type = common_terms ++ own_terms type
 
 -- a name is a term of that type
 unfoldable pub is_term_of : ContractType → List ℕ → Bool

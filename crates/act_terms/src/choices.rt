@@ -3,12 +3,12 @@ ghost use Rattle.std.specs.Prelude.{◌≡◌, ℕ, ◌||◌, ◌==◌, List, Op
 ghost use Rattle.std.specs.Option.{ok_or};
 ghost use Rattle.serde_json.specs.View.{view};
 ghost use Rattle.act_json.specs.Results.{result_map};
-ghost use Rattle.act_terms.specs.Choices.{among, calendar_named, convention_named, day_count_named, fee_basis_named, is_none, month_rule_named, penalty_type_named, role_named, scaling_effect_named};
+ghost use Rattle.act_terms.specs.Choices.{among, calculation_base_named, calendar_named, convention_named, day_count_named, fee_basis_named, is_none, month_rule_named, penalty_type_named, role_named, scaling_effect_named};
 ghost use Rattle.act_terms.specs.Fields.{choice_field};
 
 use act_date::{Calendar, Convention, DayCount, MonthRule};
 use act_json::{JsonFault, text_in};
-use act_model::{ContractRole, FeeBasis, PenaltyType, ScalingEffect};
+use act_model::{ContractRole, FeeBasis, InterestCalculationBase, PenaltyType, ScalingEffect};
 use serde_json::Value;
 
 /// The roles of a contract's owner, by their names.
@@ -67,6 +67,13 @@ const PENALTY_TYPES: [(&str, PenaltyType); 4] = [
     ("A", PenaltyType::A),
     ("N", PenaltyType::N),
     ("I", PenaltyType::I),
+];
+
+/// What interest of an amortizing loan is computed on, by the names.
+const CALCULATION_BASES: [(&str, InterestCalculationBase); 3] = [
+    ("NT", InterestCalculationBase::NT),
+    ("NTIED", InterestCalculationBase::NTIED),
+    ("NTL", InterestCalculationBase::NTL),
 ];
 
 /// A choice among the texts that a term may have.
@@ -173,6 +180,15 @@ impl Choice for PenaltyType {
     #[tactic(auto, unfolding(crate::specs::Choices::penalty_type_named))]
     fn named(text: &str) -> Option<PenaltyType> {
         among(&PENALTY_TYPES, text)
+    }
+}
+
+impl Choice for InterestCalculationBase {
+    ghost named = { calculation_base_named };
+
+    #[tactic(auto, unfolding(crate::specs::Choices::calculation_base_named))]
+    fn named(text: &str) -> Option<InterestCalculationBase> {
+        among(&CALCULATION_BASES, text)
     }
 }
 

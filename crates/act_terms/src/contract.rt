@@ -4,13 +4,14 @@ ghost use Rattle.std.specs.Str.{bytes_eq};
 ghost use Rattle.serde_json.specs.View.{view};
 ghost use Rattle.act_profile.specs.Built.{IsBuilt};
 ghost use Rattle.act_model.specs.Name.{is_name};
-ghost use Rattle.act_terms.specs.Contract.{contract_of, contract_type, named_terms_of, pam_terms_of, stk_terms_of, terms_of};
+ghost use Rattle.act_terms.specs.Contract.{ann_terms_of, contract_of, contract_type, lam_terms_of, nam_terms_of, named_terms_of, pam_terms_of, stk_terms_of, terms_of};
 
 use crate::common::read_common;
 use crate::currencies::contract_id;
 use crate::fault::{TermCause, TermsFault, refused};
 use crate::fields::needed;
 use crate::loan::read_pam;
+use crate::redemption::{read_ann, read_lam, read_nam};
 use act_json::text_in;
 use act_model::{ContractType, Kind, Names, Stk, Terms};
 use serde_json::Value;
@@ -41,8 +42,9 @@ impl Model for NamedTerms {
 ///
 /// Refused where a term is, with the first one in the order of this profile's tables: first the terms that every
 /// contract has, then those of its kind; that a penalty of lost interest needs the code of the reset rate is tried
-/// last. A type that isn't built yet is refused where an unknown one is. NoMemory where memory runs out. Where it isn't
-/// read, codes and currencies may have been added all the same.
+/// behind the terms that all loans have, and before those of redemption. A type that isn't built yet is refused where an
+/// unknown one is. NoMemory where memory runs out. Where it isn't read, codes and currencies may have been added all the
+/// same.
 #[tactic(auto, unfolding(crate::specs::Contract::contract_of))]
 pub fn read_contract(
     alloc: Global,
@@ -97,7 +99,7 @@ fn contract_type(contract: &Value) -> Result<ContractType, TermsFault>
     }
 }
 
-/// The terms of a type; those of another type than PAM and STK aren't read yet.
+/// The terms of a type; those of another type than these aren't read yet.
 #[tactic(auto, unfolding(crate::specs::Contract::terms_of))]
 fn read_terms(
     alloc: Global,
@@ -113,6 +115,9 @@ fn read_terms(
 {
     match contract_type {
         ContractType::PAM => read_pam_terms(alloc, contract, number, names),
+        ContractType::LAM => read_lam_terms(alloc, contract, number, names),
+        ContractType::NAM => read_nam_terms(alloc, contract, number, names),
+        ContractType::ANN => read_ann_terms(alloc, contract, number, names),
         ContractType::STK => read_stk_terms(alloc, contract, number, names),
         _ => Err(refused(TermCause::NotBuilt, "contractType")),
     }
@@ -136,6 +141,69 @@ fn read_pam_terms(
     Ok(Terms {
         common,
         kind: Kind::PAM(pam),
+    })
+}
+
+/// The terms of a LAM.
+#[tactic(auto, unfolding(crate::specs::Contract::lam_terms_of))]
+fn read_lam_terms(
+    alloc: Global,
+    contract: &Value,
+    number: u32,
+    names: &mut Names,
+) -> Result<Terms, TermsFault>
+    ensures read { IfOk result (λ terms. lam_terms_of number names.old (view contract.now) ≡ Ok (terms, names.new)) }
+    ensures refused { IfErr result (λ fault. fault ≢ TermsFault.NoMemory
+        → lam_terms_of number names.old (view contract.now) ≡ Err fault) }
+    ensures built { IfOk result (λ terms. IsBuilt terms.kind) }
+{
+    let common = read_common(alloc, contract, number, names)?;
+    let lam = read_lam(alloc, contract, names)?;
+    Ok(Terms {
+        common,
+        kind: Kind::LAM(lam),
+    })
+}
+
+/// The terms of a NAM.
+#[tactic(auto, unfolding(crate::specs::Contract::nam_terms_of))]
+fn read_nam_terms(
+    alloc: Global,
+    contract: &Value,
+    number: u32,
+    names: &mut Names,
+) -> Result<Terms, TermsFault>
+    ensures read { IfOk result (λ terms. nam_terms_of number names.old (view contract.now) ≡ Ok (terms, names.new)) }
+    ensures refused { IfErr result (λ fault. fault ≢ TermsFault.NoMemory
+        → nam_terms_of number names.old (view contract.now) ≡ Err fault) }
+    ensures built { IfOk result (λ terms. IsBuilt terms.kind) }
+{
+    let common = read_common(alloc, contract, number, names)?;
+    let nam = read_nam(alloc, contract, names)?;
+    Ok(Terms {
+        common,
+        kind: Kind::NAM(nam),
+    })
+}
+
+/// The terms of an ANN.
+#[tactic(auto, unfolding(crate::specs::Contract::ann_terms_of))]
+fn read_ann_terms(
+    alloc: Global,
+    contract: &Value,
+    number: u32,
+    names: &mut Names,
+) -> Result<Terms, TermsFault>
+    ensures read { IfOk result (λ terms. ann_terms_of number names.old (view contract.now) ≡ Ok (terms, names.new)) }
+    ensures refused { IfErr result (λ fault. fault ≢ TermsFault.NoMemory
+        → ann_terms_of number names.old (view contract.now) ≡ Err fault) }
+    ensures built { IfOk result (λ terms. IsBuilt terms.kind) }
+{
+    let common = read_common(alloc, contract, number, names)?;
+    let ann = read_ann(alloc, contract, names)?;
+    Ok(Terms {
+        common,
+        kind: Kind::ANN(ann),
     })
 }
 

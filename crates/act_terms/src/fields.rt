@@ -1,8 +1,8 @@
 //! Terms that are required, that may be left out, and that have a bound.
-ghost use Rattle.std.specs.Prelude.{◌≡◌, IfOk};
+ghost use Rattle.std.specs.Prelude.{◌≡◌, IfOk, IsTrue, is_some, true};
 ghost use Rattle.serde_json.specs.View.{view};
 ghost use Rattle.act_profile.specs.Built.{LeadsOn};
-ghost use Rattle.act_terms.specs.Fields.{day_after, needed, needed_day, needed_where, not_negative, optional, optional_cycle, optional_day, optional_decimal, positive};
+ghost use Rattle.act_terms.specs.Fields.{cycle_where, day_after, needed, needed_day, needed_where, not_negative, optional, optional_cycle, optional_day, optional_decimal, positive};
 
 use crate::fault::{TermCause, TermsFault, fault_at, refused};
 use act_date::{Cycle, Day};
@@ -81,6 +81,20 @@ pub(crate) fn optional_cycle(
     ensures leads_on { IfOk result (λ found. LeadsOn found) }
 {
     optional(term, cycle(contract, term))
+}
+
+/// The cycle of a term that is required where something holds; its period has at least one unit.
+#[tactic(auto, unfolding(crate::specs::Fields::cycle_where))]
+pub(crate) fn cycle_where(
+    wanted: bool,
+    contract: &Value,
+    term: &'static str,
+) -> Result<Option<Cycle>, TermsFault>
+    ensures cycle { result ≡ cycle_where wanted term.now (view contract.now) }
+    ensures leads_on { IfOk result (λ found. LeadsOn found) }
+    ensures given { IfOk result (λ found. wanted ≡ true → IsTrue (is_some found)) }
+{
+    needed_where(wanted, term, cycle(contract, term))
 }
 
 /// The day of a term that is required.

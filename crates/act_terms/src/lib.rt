@@ -1,5 +1,6 @@
 //! The terms of one contract, read from its JSON object: each by its name of the ACTUS data dictionary, in the order of
-//! this profile's tables, up to the first that is refused. So far the terms of a PAM and of a STK are read; another type is refused as not built.
+//! this profile's tables, up to the first that is refused. So far the terms of PAM, LAM,
+//! NAM, ANN and STK are read; another type is refused as not built.
 #![tactic(auto)]
 
 mod choices;
@@ -12,6 +13,7 @@ mod fields;
 mod interest;
 mod loan;
 mod penalty;
+mod redemption;
 mod reset;
 mod scaling;
 mod used;

@@ -40,9 +40,9 @@ pub(crate) fn read_pam(
     })
 }
 
-/// The terms of a loan of that initial exchange behind its maturity.
+/// The terms that all loans have behind the maturity, of a loan of that initial exchange.
 #[tactic(auto, unfolding(crate::specs::Loan::loan_of))]
-fn read_loan(
+pub(crate) fn read_loan(
     alloc: Global,
     exchange: Day,
     contract: &Value,

@@ -1,7 +1,7 @@
 //! Which names of a contract's object are terms of its type.
 ghost use Rattle.std.specs.Prelude.{◌≡◌, ◌∷◌, ◌++◌, [], IfOk, OnOk, map, string_bytes};
 ghost use Rattle.serde_json.specs.View.{view};
-ghost use Rattle.act_terms.specs.Used.{common_terms, is_among, is_term_of, terms_named, unused_names};
+ghost use Rattle.act_terms.specs.Used.{is_among, is_term_of, own_terms, unused_names};
 
 use act_model::ContractType;
 use act_num::NoMemory;
@@ -62,6 +62,17 @@ const LOAN_TERMS: [&str; 32] = [
     "penaltyRate",
 ];
 
+/// The terms of redemption, of a loan whose principal is redeemed, in the order in which they are read.
+const REDEMPTION_TERMS: [&str; 7] = [
+    "cycleAnchorDateOfPrincipalRedemption",
+    "cycleOfPrincipalRedemption",
+    "nextPrincipalRedemptionPayment",
+    "interestCalculationBase",
+    "interestCalculationBaseAmount",
+    "cycleAnchorDateOfInterestCalculationBase",
+    "cycleOfInterestCalculationBase",
+];
+
 /// The names of a contract's object that aren't terms of that type, in byte order, each once and whatever its value is,
 /// null and the empty text too. Of a type that isn't read yet the terms are those that every contract has. A value that
 /// is no object has no names. NoMemory where memory runs out.
@@ -97,16 +108,19 @@ fn push_name(names: &mut Vec<String>, name: &str) -> Result<(), NoMemory>
 fn is_term_of(contract_type: ContractType, name: &str) -> bool
     ensures { result ≡ is_term_of contract_type name.now }
 {
-    is_among(&COMMON_TERMS, name) || is_among(own_terms(contract_type), name)
+    is_among(&COMMON_TERMS, name) || is_own_term(contract_type, name)
 }
 
-/// The terms of a type beside those that every contract has.
-fn own_terms(contract_type: ContractType) -> &'static [&'static str]
-    ensures { common_terms ++ map (λ n. n.now) result.now ≡ terms_named contract_type }
+/// Whether a name is a term of that type beside those that every contract has.
+fn is_own_term(contract_type: ContractType, name: &str) -> bool
+    ensures { result ≡ is_among (own_terms contract_type) name.now }
 {
     match contract_type {
-        ContractType::PAM => &LOAN_TERMS,
-        _ => &[],
+        ContractType::PAM => is_among(&LOAN_TERMS, name),
+        ContractType::LAM | ContractType::NAM | ContractType::ANN => {
+            is_among(&LOAN_TERMS, name) || is_among(&REDEMPTION_TERMS, name)
+        }
+        _ => false,
     }
 }
 
