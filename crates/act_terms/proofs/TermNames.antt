@@ -14,7 +14,7 @@ list_any-map p f [] = refl
 list_any-map p f (x ∷ xs) = ap (λ b. p (f x) || b) (list_any-map p f xs)
 
 -- a name is among two lists where it is among the one or the other
-pub among_both : (first second : List (List ℕ)) (name : List ℕ) → is_among (first ++ second) name ≡ (is_among first name || is_among second name)
+among_both : (first second : List (List ℕ)) (name : List ℕ) → is_among (first ++ second) name ≡ (is_among first name || is_among second name)
 among_both first second name = list_any-append (λ n. bytes_eq n name) first second
 
 -- a term of a type is one that every contract has, or one of its own
