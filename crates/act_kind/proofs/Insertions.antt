@@ -1,17 +1,14 @@
 -- A date put behind those that are earlier.
-use Rattle.std.proofs.Common.{◌≡◌, ℕ, suc, ◌+◌, true, false, ℤ, List, [], ◌∷◌, Some, inl, inr, refl, ap, arith}
+use Rattle.std.proofs.Common.{◌≡◌, ◌≤◌, ℕ, zero, suc, ◌+◌, Bool, drop, true, false, ℤ, List, [], ◌∷◌, Some, inl, inr, refl, ap, arith}
 use Rattle.std.proofs.lemmas.Bool.{cases_Bool}
 use Rattle.std.proofs.lemmas.Int.{ints}
 use Rattle.std.proofs.lemmas.List.Sums.{prefix_len-le-length}
 use Rattle.std.specs.List.{insert, prefix_len}
+use Rattle.act_kind.specs.Insertion.{earlier}
 use Rattle.std.specs.Prelude.{int_lt, slice_get}
 use Rattle.act_profile.specs.Lists.{insert_once_by}
 
 pub ruleset prefix_within = (prefix_len-le-length)
-
--- how many dates are earlier, from the front on
-abbrev pub earlier : ℤ → List ℤ → ℕ
-earlier x xs = prefix_len (λ d. int_lt d x) xs
 
 -- the place behind an earlier date
 one_more : (n : ℕ) → 1 + n ≡ suc n
@@ -54,4 +51,34 @@ inserted_new x (y ∷ ys) other =
       | inr fails ↦
           let before : int_lt x y ≡ true = differs_from x y fails (λ same. other (rw fails (ap Some same))) in
           rw (fails, before) refl
+    ]
+
+-- ---- looking on from a place
+
+-- where the first k pass, those that pass behind them are the rest
+pub counted_on : {A : Type 0} (p : A → Bool) (xs : List A) (k : ℕ) → k ≤ prefix_len p xs → k + prefix_len p (drop k xs) ≡ prefix_len p xs
+counted_on p xs zero le = omega arith
+counted_on p [] (suc k) le = absurd (omega arith)
+counted_on p (x ∷ xs) (suc k) le =
+    elim (cases_Bool (p x)) [
+      | inl holds ↦
+          let rest : k ≤ prefix_len p xs = let more = rw holds at le in omega arith in
+          rw holds (omega (arith, counted_on p xs k rest))
+      | inr fails ↦ let none = rw fails at le in absurd (omega arith)
+    ]
+
+before_later : (x d e : ℤ) → int_lt x d ≡ true → int_lt d e ≡ true → int_lt x e ≡ true
+before_later x d e first second =
+    elim (cases_Bool (int_lt x e)) [ inl holds ↦ holds | inr fails ↦ absurd (omega (arith, ints)) ]
+
+-- those before a date are before a later one too, where the date stands among them
+pub reaches : (d e : ℤ) (xs : List ℤ) → int_lt d e ≡ true → earlier d xs ≤ earlier e (insert_once_by int_lt xs d)
+unfolding insert_once_by
+reaches d e [] after = omega arith
+reaches d e (x ∷ xs) after =
+    elim (cases_Bool (int_lt x d)) [
+      | inl holds ↦
+          let too = before_later x d e holds after in
+          rw (holds, too) (omega (arith, reaches d e xs after))
+      | inr fails ↦ rw fails (omega arith)
     ]

@@ -1,3 +1,4 @@
+pub mod Insertion
 pub mod Payment
 pub mod Takes
 pub mod Types

@@ -1,6 +1,6 @@
 //! The dates of one type of event, before they are shifted to business days.
-ghost use Rattle.std.specs.Prelude.{◌≡◌, ◌<◌, ◌≤◌, ◌↔◌, int_lt, length, option_map, Some, slice_get, IfOk, IfErr, IfSome, IsSomeAnd, IsTrue};
-ghost use Rattle.std.specs.List.{prefix_len};
+ghost use Rattle.std.specs.Prelude.{if◌then◌else◌, ◌≡◌, ◌<◌, ◌≤◌, ◌↔◌, int_lt, length, option_map, Some, slice_get, IfOk, IfErr, IfSome, IsSomeAnd, IsTrue};
+ghost use Rattle.act_kind.specs.Insertion.{earlier, is_later};
 ghost use Rattle.act_kind.specs.Types.{IsAnswer};
 ghost use Rattle.act_profile.specs.Dates.{after, anchor_of, recurring, recurring_before, recurring_or_end, united, without};
 ghost use Rattle.act_profile.specs.Lists.{insert_once_by};
@@ -113,33 +113,63 @@ pub fn recurring_or_end_after(
     }
 }
 
-/// The dates of both lists, each day once, and ascending where the first list is. The one fault is `NoMemory`.
+/// The dates of both lists, each day once, and ascending where the first list is. The one fault is `NoMemory`. Where
+/// both ascend, each date is looked for behind the one before it.
 pub fn united(mut dates: Vec<Day>, others: &[Day]) -> Result<Vec<Day>, PlanFault>
     ensures dates { IfOk result (λ all. all.items ≡ united dates.items others.now) }
     ensures no_memory { IfErr result (λ fault. fault ≡ PlanFault.NoMemory) }
 {
+    let mut place = 0;
+    let mut previous = None;
     'others: for date in others {
-        insert_once(&mut dates, *date)?;
+        let from = start_for(place, previous, *date);
+        place = insert_once(&mut dates, from, *date)?;
+        previous = Some(*date);
     }
     Ok(dates)
 }
 
-/// Puts a date behind those that are earlier, unless it is there.
-fn insert_once(dates: &mut Vec<Day>, date: Day) -> Result<(), PlanFault>
+/// From where a date is looked for, by the place of the one before it.
+fn start_for(place: usize, previous: Option<Day>, date: Day) -> usize
+    ensures { result ≡ (if is_later previous date then place else 0) }
+{
+    if previous.is_none_or(|previous| previous < date) {
+        place
+    } else {
+        0
+    }
+}
+
+/// Puts a date behind those that are earlier, unless it is there, and says at which place it stands. The dates before
+/// `from` are earlier.
+fn insert_once(dates: &mut Vec<Day>, from: usize, date: Day) -> Result<usize, PlanFault>
+    requires { from ≤ earlier date dates.old.items }
     ensures inserted { IfOk result (λ _. dates.new.items ≡ insert_once_by int_lt dates.old.items date) }
+    ensures place { IfOk result (λ place. place ≡ earlier date dates.old.items) }
     ensures no_memory { IfErr result (λ fault. fault ≡ PlanFault.NoMemory) }
 {
-    let place = count_earlier(dates, date);
+    let place = place_of(dates, from, date);
     if is_at(dates, place, date) {
-        return Ok(());
+        return Ok(place);
     }
-    Ok(dates.insert(place, date)?)
+    dates.insert(place, date)?;
+    Ok(place)
+}
+
+/// The place behind the dates that are earlier. Those before `from` are.
+#[tactic(auto, using(crate::proofs::Insertions::counted_on, crate::proofs::Insertions::prefix_within))]
+fn place_of(dates: &[Day], from: usize, date: Day) -> usize
+    requires { from ≤ earlier date dates.now }
+    ensures place { result ≡ earlier date dates.now }
+    ensures within { result ≤ length dates.now }
+{
+    from + count_earlier(&dates[from..], date)
 }
 
 /// How many dates are earlier, from the front on.
 #[tactic(auto, using(crate::proofs::Insertions::prefix_within))]
 fn count_earlier(dates: &[Day], date: Day) -> usize
-    ensures count { result ≡ prefix_len (λ d. int_lt d date) dates.now }
+    ensures count { result ≡ earlier date dates.now }
     ensures within { result ≤ length dates.now }
 {
     dates.iter().take_while(|earlier| **earlier < date).count()
