@@ -10,7 +10,7 @@ use Rattle.act_annuity.specs.Passes.{changed, pass_over}
 use Rattle.act_annuity.specs.declared.annuity.Change.TheVariants.{Add, TakeAway}
 use Rattle.act_annuity.specs.Payment.{divisor_of, positive, sum_from}
 
-pub total : List ℤ → ℤ
+unfoldable pub total : List ℤ → ℤ
 total [] = pos 0
 total (q ∷ qs) = q +ℤ total qs
 
@@ -80,7 +80,7 @@ positive_none (pos zero) h = refl
 positive_none (pos (suc n)) h = absurd (omega (arith, ints))
 positive_none (negsuc n) h = refl
 
-positive_some : (d : ℤ) → pos 0 <ℤ d → positive d ≡ Some (unsigned_abs d)
+pub positive_some : (d : ℤ) → pos 0 <ℤ d → positive d ≡ Some (unsigned_abs d)
 positive_some (pos zero) h = absurd (omega (arith, ints))
 positive_some (pos (suc n)) h = refl
 positive_some (negsuc n) h = absurd (omega (arith, ints))

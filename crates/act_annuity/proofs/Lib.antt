@@ -1,3 +1,4 @@
 pub mod Passing
 pub mod Divisors
 pub mod Payments
+pub mod Raising

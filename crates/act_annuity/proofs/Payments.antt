@@ -20,7 +20,7 @@ pub no_products : (products : Option (List ℤ)) → option_and_then (first_and_
 no_products None e = refl
 no_products (Some qs) e = absurd (added_some qs e)
 
-not_negative : (z : ℤ) → pos 0 <ℤ z → pos (unsigned_abs z) ≡ z
+pub not_negative : (z : ℤ) → pos 0 <ℤ z → pos (unsigned_abs z) ≡ z
 not_negative (pos n) h = refl
 not_negative (negsuc n) h = absurd (omega (arith, ints))
 

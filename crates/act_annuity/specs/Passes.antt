@@ -1,11 +1,11 @@
 -- What clauses on the passes over the periods, from the last one back, say.
-use Rattle.std.specs.Prelude.{ℤ, pos, ◌+ℤ◌, ◌-ℤ◌, List, [], ◌∷◌, Option, Some, None, option_map, option_and_then}
+use Rattle.std.specs.Prelude.{if◌then◌else◌, int_lt, ℤ, pos, ◌+ℤ◌, ◌-ℤ◌, List, [], ◌∷◌, Option, Some, None, option_map, option_and_then}
 use Rattle.std.specs.Int.{w128, int_wrap}
 use Rattle.act_num.specs.Factor.{times_of}
 use Rattle.act_num.specs.Number.{number_in_range}
 use Rattle.act_date.specs.Fraction.{Fraction}
 use Rattle.act_annuity.specs.declared.annuity.Change.{Change}
-use Rattle.act_annuity.specs.declared.annuity.Change.TheVariants.{Add, TakeAway}
+use Rattle.act_annuity.specs.declared.annuity.Change.TheVariants.{Add, TakeAway, Raise}
 use Rattle.act_annuity.specs.Payment.{divisor_of, factor_of, products_at}
 
 -- the first of some products
@@ -22,10 +22,12 @@ product_with (Some later) f = times_of later f
 abbrev pub product_from : ℤ → Fraction → Option ℤ → Option ℤ
 product_from rate period later = option_and_then (product_with later) (factor_of rate period)
 
--- a product is added, and the sum wraps around past 128 bits; or it is taken away, and the rest is in range
+-- a product is added, and the sum wraps around past 128 bits; or it is taken away, and the rest is in range; or it is added where it isn't below 0,
+-- and the sum is in range
 abbrev pub changed : Change → ℤ → ℤ → Option ℤ
 changed Add number q = Some (int_wrap w128 (number +ℤ q))
 changed TakeAway number q = number_in_range (number -ℤ q)
+changed Raise number q = if int_lt q (pos 0) then None else number_in_range (number +ℤ q)
 
 -- what a number becomes that the products change one after the other, from the last one back
 unfoldable pub pass_over : Change → ℤ → List ℤ → Option ℤ

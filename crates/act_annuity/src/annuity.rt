@@ -3,6 +3,7 @@ ghost use Rattle.std.specs.Prelude.{◌≡◌, pos, ◌-ℤ◌, ◌*ℤ◌, ◌<
 ghost use Rattle.act_num.specs.Number.{number_in_range, rnd};
 ghost use Rattle.act_annuity.specs.Passes.{changed, first_and_divisor, passed, product_from};
 ghost use Rattle.act_annuity.specs.Payment.{annuity_payment, products_at};
+ghost use Rattle.act_annuity.specs.declared.annuity.Change.TheVariants.{Raise};
 
 use act_date::Frac;
 use act_num::{Factor, Fixed, rnd};
@@ -17,6 +18,8 @@ enum Change {
     Add,
     /// Each is taken away, and each rest has to be in range.
     TakeAway,
+    /// Each is added. None may be below 0, and each sum has to be in range.
+    Raise,
 }
 
 /// The payment that redeems the notional `n` and the interest `a` accrued on it at the yearly rate `r`, if it is
@@ -49,10 +52,22 @@ fn quotient(owed: Fixed, product: Factor, divisor: i128) -> Option<Fixed>
 
 /// The product of all factors, where there are periods, and the divisor, or None where one of them is undefined.
 ///
-/// The products come from the last period back, and aren't kept. So a first pass adds them up as they come, where
-/// the sum may wrap around. A second one takes them away again, which leads from the sum back over the very sums
-/// that have to be in range.
+/// Where no product is below 0, as at all rates that are paid, no sum on the way is greater than the last one, in
+/// whatever order they are added. Else the sums have to be looked at one by one.
 fn product_and_divisor(r: Fixed, periods: &[Frac]) -> Option<(Option<Factor>, i128)>
+    ensures value { result ≡ option_and_then first_and_divisor (products_at r periods.now) }
+    ensures positive { IfSome result (λ found. pos 0 <ℤ found.1) }
+{
+    match pass(r, periods, ONE_IN_UNITS, Change::Raise) {
+        Some(found) => Some(found),
+        None => by_two_passes(r, periods),
+    }
+}
+
+/// The same, whatever the products are. They come from the last period back, and aren't kept. So a first pass adds
+/// them up as they come, where the sum may wrap around. A second one takes them away again, which leads from the sum
+/// back over the very sums that have to be in range.
+fn by_two_passes(r: Fixed, periods: &[Frac]) -> Option<(Option<Factor>, i128)>
     ensures value { result ≡ option_and_then first_and_divisor (products_at r periods.now) }
     ensures positive { IfSome result (λ found. pos 0 <ℤ found.1) }
 {
@@ -90,14 +105,26 @@ fn product_from(r: Fixed, period: Frac, later: Option<Factor>) -> Option<Factor>
     }
 }
 
-/// The number with the product added or taken away.
+/// The number with the product added or taken away, or None where it isn't in range.
 fn changed(number: i128, product: i128, change: Change) -> Option<i128>
     ensures { result ≡ changed change number product }
 {
     match change {
         Change::Add => Some(number.wrapping_add(product)),
         Change::TakeAway => difference(number, product),
+        Change::Raise => raised(number, product),
     }
+}
+
+/// The sum, or None where the product is below 0 or the sum out of range.
+fn raised(number: i128, product: i128) -> Option<i128>
+    ensures { result ≡ changed Raise number product }
+{
+    if product < 0 {
+        return None;
+    }
+    let sum = number.checked_add(product)?;
+    (sum != i128::MIN).then_some(sum)
 }
 
 /// The difference, or None where it is out of range.
