@@ -66,3 +66,8 @@ module _ (code : ℕ) (t : ℤ) where
   pub latest_joined : (front back : List Obs) → latest_rate (front ++ back) code t ≡ later (latest_rate front code t) (latest_rate back code t)
   latest_joined front back =
       rw (walked (front ++ back), walked front, walked back) (fold-append (λ latest entry. later latest (rate_until code t entry)) None front back ∙ walk_from (walk None front) back)
+
+-- where no rate follows
+pub none_later : (latest : Option (ℤ × ℤ)) → later latest None ≡ latest
+none_later None = refl
+none_later (Some latest) = refl

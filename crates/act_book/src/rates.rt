@@ -14,7 +14,9 @@ pub fn latest_among(entries: &[Obs], code: u32, until: Day) -> Option<(Day, Fixe
 {
     let mut latest = None;
     for entry in entries {
-        latest = later(latest, rate_until(entry, code, until));
+        if let Some(rate) = rate_until(entry, code, until) {
+            latest = later(latest, Some(rate));
+        }
     }
     latest
 }
