@@ -1,5 +1,6 @@
 //! The calls of each kind.
-ghost use Rattle.std.specs.Prelude.{◌≡◌, ◌≢◌, [], Ok, Err};
+ghost use Rattle.std.specs.Prelude.{◌≡◌, ◌≢◌, [], true, Ok, Err};
+ghost use Rattle.act_amort.specs.Kinds.{amortizes};
 ghost use Rattle.act_kind.specs.Takes.{Takes};
 ghost use Rattle.act_model.specs.Kind.{type_of};
 ghost use Rattle.act_model.specs.declared.event.Event.{Event};
@@ -17,6 +18,8 @@ use std::sync::ledger::Ledger;
 enum Family {
     /// act_loan: PAM.
     Loan,
+    /// act_amort: LAM, NAM and ANN.
+    Amortizing,
     /// act_equity: STK.
     Equity,
 }
@@ -25,10 +28,12 @@ enum Family {
 fn family_of(kind: &Kind) -> Family
     requires { IsBuilt kind.now }
     ensures loan { result ≡ Family.Loan → type_of kind.now ≡ ContractType.PAM }
+    ensures amortizing { result ≡ Family.Amortizing → amortizes (type_of kind.now) ≡ true }
     ensures equity { result ≡ Family.Equity → type_of kind.now ≡ ContractType.STK }
 {
     match kind {
         Kind::PAM(_) => Family::Loan,
+        Kind::LAM(_) | Kind::NAM(_) | Kind::ANN(_) => Family::Amortizing,
         Kind::STK(_) => Family::Equity,
         _ => unreachable!(),
     }
@@ -42,6 +47,7 @@ pub fn schedule(alloc: Global, terms: &Terms) -> Result<Plan, PlanFault>
 {
     match family_of(&terms.kind) {
         Family::Loan => act_loan::schedule(alloc, terms),
+        Family::Amortizing => act_amort::schedule(alloc, terms),
         Family::Equity => act_equity::schedule(alloc, terms),
     }
 }
@@ -55,6 +61,7 @@ pub fn start(terms: &Terms, plan: &Plan) -> Result<State, Stop>
 {
     match family_of(&terms.kind) {
         Family::Loan => act_loan::start(terms, plan),
+        Family::Amortizing => act_amort::start(terms, plan),
         Family::Equity => act_equity::start(terms, plan),
     }
 }
@@ -75,19 +82,19 @@ pub fn step<O: Observed, L: Ledger>(
 {
     match family_of(&terms.kind) {
         Family::Loan => act_loan::step(terms, plan, state, event, seen, steps),
+        Family::Amortizing => act_amort::step(terms, plan, state, event, seen, steps),
         Family::Equity => act_equity::step(terms, plan, state, event, seen, steps),
     }
 }
 
 /// The currency of each payoff, by its number.
-#[tactic(auto, using(crate::proofs::Currencies::currency_of_pam, crate::proofs::Currencies::currency_of_stk))]
+#[tactic(auto, using(crate::proofs::Currencies::currency_of_built))]
 pub fn currency_of(terms: &Terms) -> u32
     requires { IsBuilt terms.now.kind }
     ensures { (event : Event) → result ≡ currency_of terms.now [] event }
 {
     match family_of(&terms.kind) {
-        Family::Loan => own_currency(&terms.common),
-        Family::Equity => own_currency(&terms.common),
+        Family::Loan | Family::Amortizing | Family::Equity => own_currency(&terms.common),
     }
 }
 

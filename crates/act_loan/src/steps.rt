@@ -34,6 +34,7 @@ pub fn start_loan(terms: &Terms, loan: &LoanTerms<'_>, plan: &Plan) -> Result<St
 
 /// What an event of a loan pays and the state after it, or why the run stops there, by its terms as a loan's. Where it
 /// is Ok it ticks once, and else not at all. It takes no memory.
+#[inline(always)]
 #[tactic(auto, using(crate::proofs::Contracts::periods_of))]
 pub fn step_loan<O: Observed, L: Ledger>(
     terms: &Terms,

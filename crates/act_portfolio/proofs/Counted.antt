@@ -21,6 +21,9 @@ use Rattle.act_portfolio.proofs.PlanLengths.{plan_is_within}
 
 by_kind : (contract : Kind) (plan : EventPlan) → IsBuilt contract → (own_count contract plan ≡ length plan.events) × (counted_by contract ≡ [])
 by_kind (kind.PAM pam) plan built = (refl, refl)
+by_kind (kind.LAM lam) plan built = (refl, refl)
+by_kind (kind.NAM nam) plan built = (refl, refl)
+by_kind (kind.ANN ann) plan built = (refl, refl)
 by_kind (kind.STK stk) plan built = (refl, refl)
 by_kind other plan built = absurd built
 

@@ -16,6 +16,7 @@ use Rattle.act_model.specs.declared.terms.Kind.{Kind}
 use Rattle.act_model.specs.declared.terms.Kind.TheVariants as kind
 use Rattle.act_model.specs.declared.terms.Terms.{Terms}
 use Rattle.act_profile.specs.Built.{IsBuilt}
+use Rattle.act_profile.specs.Dates.{maturity_of_lam}
 use Rattle.act_profile.specs.Lists.{all_of, insert_by}
 use Rattle.act_profile.specs.LoanPlan.{loan_dates, loan_plan, with_redemptions}
 use Rattle.act_profile.specs.LoanTerms.{LoanTerms}
@@ -107,6 +108,11 @@ loan_is_within l plan is = by_events (events_by_type l.common 0 (loan_dates l)) 
         let e : with_redemptions l (in_order events) ≡ plan = cc in
         rw (← e) (omega (arith, types_are_within l.common (loan_dates l) 0 events (omega arith) are, ordered_are_as_many events))
 
+-- where the maturity may be undefined
+derived_is_within : (f : ℤ → LoanTerms) (maturity : Result ℤ PlanFault) (plan : EventPlan) → then_ok loan_plan (map_ok f maturity) ≡ Ok plan → length plan.events ≤ 4096
+derived_is_within f (Ok maturity) plan is = loan_is_within (f maturity) plan is
+derived_is_within f (Err fault) plan is = absurd (cc)
+
 one_at_most : (type : EventType) (date : Option ℤ) → length (event_where_given type date) ≤ 1
 one_at_most type None = omega arith
 one_at_most type (Some date) = omega arith
@@ -120,6 +126,9 @@ trades_are_within common plan is =
 
 by_kind : (common : Common) (contract : Kind) (plan : EventPlan) → IsBuilt contract → plan_by common contract ≡ Ok plan → length plan.events ≤ 4096
 by_kind common (kind.PAM pam) plan built is = loan_is_within _ plan is
+by_kind common (kind.LAM lam) plan built is = derived_is_within _ (maturity_of_lam lam) plan is
+by_kind common (kind.NAM nam) plan built is = loan_is_within _ plan is
+by_kind common (kind.ANN ann) plan built is = loan_is_within _ plan is
 by_kind common (kind.STK stk) plan built is = trades_are_within common plan is
 by_kind common other plan built is = absurd built
 

@@ -31,6 +31,9 @@ is_childless other = true
 
 pub childless_built : (contract : Kind) → IsBuilt contract → is_childless contract ≡ true
 childless_built (kind.PAM pam) built = refl
+childless_built (kind.LAM lam) built = refl
+childless_built (kind.NAM nam) built = refl
+childless_built (kind.ANN ann) built = refl
 childless_built (kind.STK stk) built = refl
 childless_built other built = absurd built
 

@@ -46,16 +46,25 @@ observed_are terms entries own are = ap (events_from terms.kind 0) are
 
 scheduled_built : (common : Common) (contract : Kind) (plan : EventPlan) (entries : List Obs) → IsBuilt contract → events_scheduled common contract plan entries ≡ plan.events
 scheduled_built common (kind.PAM pam) plan entries is = refl
+scheduled_built common (kind.LAM lam) plan entries is = refl
+scheduled_built common (kind.NAM nam) plan entries is = refl
+scheduled_built common (kind.ANN ann) plan entries is = refl
 scheduled_built common (kind.STK stk) plan entries is = refl
 scheduled_built common other plan entries is = absurd is
 
 no_rows_built : (common : Common) (contract : Kind) → IsBuilt contract → events_of_children common contract [] ≡ []
 no_rows_built common (kind.PAM pam) is = refl
+no_rows_built common (kind.LAM lam) is = refl
+no_rows_built common (kind.NAM nam) is = refl
+no_rows_built common (kind.ANN ann) is = refl
 no_rows_built common (kind.STK stk) is = refl
 no_rows_built common other is = absurd is
 
 no_exercise_built : (contract : Kind) (events : List Event) → IsBuilt contract → with_exercise contract events ≡ events
 no_exercise_built (kind.PAM pam) events is = refl
+no_exercise_built (kind.LAM lam) events is = refl
+no_exercise_built (kind.NAM nam) events is = refl
+no_exercise_built (kind.ANN ann) events is = refl
 no_exercise_built (kind.STK stk) events is = refl
 no_exercise_built other events is = absurd is
 

@@ -78,6 +78,7 @@ impl TextLine {
     }
 
     /// Adds a day as `YYYY-MM-DD`, ten bytes.
+    #[inline]
     pub fn push_day(&mut self, day: Day)
         requires { length self.old + 10 ≤ MOST_LINE }
         ensures text { self.new ≡ self.old ++ date_text day }

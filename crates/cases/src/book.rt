@@ -2,6 +2,7 @@
 ghost use Rattle.std.specs.Prelude.{◌≡◌, true, IfSome};
 ghost use Rattle.act_model.specs.Observed.{is_credit_event, is_entry};
 
+use crate::many::{disagreements_told, held_told};
 use crate::steps::entry_told;
 use crate::told::Told;
 use crate::trouble::Trouble;
@@ -52,6 +53,8 @@ impl Shelf {
             }
             "append" => self.append(told, words),
             "full_book" => full_book(told, words),
+            "disagreements" => disagreements_told(told, words),
+            "held" => held_told(told, words),
             _ => self.ask(told, words, call),
         }
     }
@@ -177,7 +180,8 @@ fn places_told<O: Observed>(told: &mut Told, seen: &O, events: &[Obs]) {
     }
 }
 
-fn appended_told(told: &mut Told, answer: Result<u64, BookFault>) {
+/// Tells what an append answers.
+pub fn appended_told(told: &mut Told, answer: Result<u64, BookFault>) {
     match answer {
         Ok(version) => told.value(version),
         Err(fault) => {

@@ -1,0 +1,4 @@
+pub mod LoanPlans
+pub mod PaidDates
+pub mod PaymentFixings
+pub mod TypesInTurn

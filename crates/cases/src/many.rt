@@ -1,0 +1,171 @@
+//! Calls of a book with many entries.
+ghost use Rattle.std.specs.Prelude.{◌≡◌, ◌<◌, ◌≤◌, true, length, IfSome};
+ghost use Rattle.act_model.specs.Observed.{is_entry};
+
+use crate::book::appended_told;
+use crate::told::Told;
+use crate::trouble::Trouble;
+use crate::words::Words;
+use act_book::{Book, Snapshot};
+use act_date::Day;
+use act_model::{Listed, Obs, ObsKind, Observed};
+use act_num::{Fixed, NoMemory};
+use std::alloc::Global;
+
+/// The number of 2020-01-01.
+const FIRST_DAY: u32 = 18_262;
+
+/// Numbers that are drawn one after the other.
+#[derive(Drop)]
+struct Draws {
+    x: u64,
+}
+
+impl Draws {
+    /// The next one, below a bound.
+    fn below(&mut self, bound: u32) -> u32
+        requires { 0 < bound }
+        ensures { result < bound }
+    {
+        self.x = self
+            .x
+            .wrapping_mul(6_364_136_223_846_793_005)
+            .wrapping_add(1_442_695_040_888_963_407);
+        (self.x >> 33) as u32 % bound
+    }
+
+    /// A day of 400.
+    fn day(&mut self) -> Option<Day> {
+        Day::from_number(i64::from(FIRST_DAY + self.below(400)))
+    }
+
+    /// A rate of three codes, or each fourth time about a prepayment of three contracts.
+    fn entry(&mut self) -> Option<Obs>
+        ensures { IfSome result (λ entry. is_entry entry ≡ true) }
+    {
+        let (is_event, whose, day) = (self.below(4) == 0, self.below(3), self.day()?);
+        let value = Fixed::from_units(i128::from(self.below(1_000)))?;
+        Some(if is_event {
+            Obs::Event {
+                contract: whose,
+                kind: ObsKind::PP,
+                day,
+                value,
+            }
+        } else {
+            Obs::Rate {
+                code: whose,
+                day,
+                value,
+            }
+        })
+    }
+}
+
+/// Tells of how many questions a book and a plain list of the same entries answer differently. How many entries and
+/// questions there are is given, and from where they are drawn.
+pub fn disagreements_told(told: &mut Told, words: &mut Words<'_>) {
+    let (count, questions) = (words.count(), words.count());
+    let mut draws = Draws {
+        x: u64::from(words.count()),
+    };
+    match disagreements(told.alloc, &mut draws, count, questions) {
+        Some(differ) => told.value(differ),
+        None => told.fail(Trouble::NoMemory),
+    }
+}
+
+/// Of how many questions a book and a plain list of entries that are drawn answer differently.
+fn disagreements(alloc: Global, draws: &mut Draws, count: u32, questions: u32) -> Option<u32> {
+    let mut book = Book::new(alloc);
+    let mut entries = Vec::new(alloc);
+    for _ in 0..count {
+        let entry = draws.entry()?;
+        book.append(entry).ok()?;
+        entries.push(entry).ok()?;
+    }
+    let mut differ = 0_u32;
+    for _ in 0..questions {
+        if !is_agreed(alloc, draws, &book, &entries)? {
+            differ = differ.saturating_add(1);
+        }
+    }
+    Some(differ)
+}
+
+/// Whether a book and a list answer alike to what is asked of a number of entries, a code or contract and a day that
+/// are drawn.
+fn is_agreed(alloc: Global, draws: &mut Draws, book: &Book, entries: &[Obs]) -> Option<bool> {
+    let most = u32::try_from(entries.len()).ok()?.min(book.len() as u32);
+    let (version, whose, day) = (draws.below(most + 1), draws.below(4), draws.day()?);
+    let seen = book.snapshot(u64::from(version)).ok()?;
+    let list = Listed::new(entries[..version as usize].to_vec(alloc).ok()?);
+    let (own, events) = (
+        seen.events_of(alloc, whose).ok()?,
+        list.events_of(alloc, whose).ok()?,
+    );
+    let place = u64::from(draws.below(most + 1));
+    Some(
+        seen.value(whose, day) == list.value(whose, day)
+            && own.as_slice() == events.as_slice()
+            && seen.entry(place) == list.entry(place),
+    )
+}
+
+/// Tells how many of the snapshots that are held of a book while it is filled show their own last rate in the end, and
+/// what the book answers to one entry more.
+pub fn held_told(told: &mut Told, words: &mut Words<'_>) {
+    let (count, snapshots) = (words.count(), words.count());
+    let Some(day) = words.day() else {
+        return words.fail(Trouble::OtherWord);
+    };
+    let mut book = Book::new(told.alloc);
+    match held(told.alloc, &mut book, count, snapshots, day) {
+        Ok(held) => told.value(right(&held, day)),
+        Err(NoMemory) => told.fail(Trouble::NoMemory),
+    }
+    told.text(" right, ");
+    appended_told(told, book.append(rate(day, count)));
+}
+
+/// The snapshots of a book that is filled with rates of one day, made at even distances.
+fn held(
+    alloc: Global,
+    book: &mut Book,
+    count: u32,
+    snapshots: u32,
+    day: Day,
+) -> Result<Vec<Snapshot>, NoMemory> {
+    let distance = (count / snapshots.max(1)).max(1);
+    let mut held = Vec::new(alloc);
+    for place in 0..count {
+        let Ok(version) = book.append(rate(day, place)) else {
+            return Err(NoMemory);
+        };
+        if (place + 1) % distance == 0 {
+            held.push(book.snapshot(version)?)?;
+        }
+    }
+    Ok(held)
+}
+
+/// How many snapshots show the rate at their last place.
+fn right(held: &[Snapshot], day: Day) -> usize {
+    held.iter()
+        .filter(|seen| {
+            let last = seen.version().saturating_sub(1);
+            seen.value(1, day) == Fixed::from_units(i128::from(last))
+        })
+        .count()
+}
+
+/// A rate whose units are its place.
+fn rate(day: Day, place: u32) -> Obs
+    ensures { is_entry result ≡ true }
+{
+    Obs::Rate {
+        code: 1,
+        day,
+        value: Fixed::from_units(i128::from(place)).unwrap_or(Fixed::ZERO),
+    }
+}
