@@ -17,7 +17,7 @@ pub(crate) fn maturity_of(lam: &Lam) -> Result<Day, PlanFault>
     match (lam.maturity_date, lam.next_principal_redemption_payment) {
         (Some(maturity), _) => Ok(maturity),
         (None, Some(payment)) => derived_maturity(lam, payment),
-        (None, None) => Err(PlanFault::DateRange),
+        (None, None) => unreachable!(),
     }
 }
 

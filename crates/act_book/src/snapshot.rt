@@ -41,7 +41,7 @@ impl Model for Snapshot {
 
 impl Snapshot {
     /// The first `v` entries of a book, whose runs it shares.
-    pub fn first(
+    pub(crate) fn first(
         entries: &Vec<Obs>,
         runs: &[Arc<Run, Global>],
         v: u64,

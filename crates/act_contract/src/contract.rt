@@ -1,9 +1,10 @@
 //! The calls of each kind.
 ghost use Rattle.std.specs.Prelude.{◌≡◌, ◌≢◌, [], true, Ok, Err};
 ghost use Rattle.act_amort.specs.Kinds.{amortizes};
+ghost use Rattle.act_equity.specs.Kinds.{is_stock_or_outright};
 ghost use Rattle.act_kind.specs.Takes.{Takes};
 ghost use Rattle.act_model.specs.Kind.{type_of};
-ghost use Rattle.act_model.specs.declared.event.Event.{Event};
+ghost use Rattle.act_option.specs.Kinds.{is_exercised};
 ghost use Rattle.act_profile.specs.Built.{IsBuilt};
 ghost use Rattle.act_profile.specs.Plan.{plan_of};
 ghost use Rattle.act_profile.specs.Steps.{currency_of, own_currency, start_of, step_of};
@@ -20,8 +21,10 @@ enum Family {
     Loan,
     /// act_amort: LAM, NAM and ANN.
     Amortizing,
-    /// act_equity: STK.
+    /// act_equity: STK and FXOUT.
     Equity,
+    /// act_option: OPTNS and FUTUR.
+    Option,
 }
 
 /// The crate that a kind is in.
@@ -29,12 +32,14 @@ fn family_of(kind: &Kind) -> Family
     requires { IsBuilt kind.now }
     ensures loan { result ≡ Family.Loan → type_of kind.now ≡ ContractType.PAM }
     ensures amortizing { result ≡ Family.Amortizing → amortizes (type_of kind.now) ≡ true }
-    ensures equity { result ≡ Family.Equity → type_of kind.now ≡ ContractType.STK }
+    ensures equity { result ≡ Family.Equity → is_stock_or_outright (type_of kind.now) ≡ true }
+    ensures option { result ≡ Family.Option → is_exercised (type_of kind.now) ≡ true }
 {
     match kind {
         Kind::PAM(_) => Family::Loan,
         Kind::LAM(_) | Kind::NAM(_) | Kind::ANN(_) => Family::Amortizing,
-        Kind::STK(_) => Family::Equity,
+        Kind::STK(_) | Kind::FXOUT(_) => Family::Equity,
+        Kind::OPTNS(_) | Kind::FUTUR(_) => Family::Option,
         _ => unreachable!(),
     }
 }
@@ -49,6 +54,7 @@ pub fn schedule(alloc: Global, terms: &Terms) -> Result<Plan, PlanFault>
         Family::Loan => act_loan::schedule(alloc, terms),
         Family::Amortizing => act_amort::schedule(alloc, terms),
         Family::Equity => act_equity::schedule(alloc, terms),
+        Family::Option => act_option::schedule(alloc, terms),
     }
 }
 
@@ -63,6 +69,7 @@ pub fn start(terms: &Terms, plan: &Plan) -> Result<State, Stop>
         Family::Loan => act_loan::start(terms, plan),
         Family::Amortizing => act_amort::start(terms, plan),
         Family::Equity => act_equity::start(terms, plan),
+        Family::Option => act_option::start(terms, plan),
     }
 }
 
@@ -84,17 +91,18 @@ pub fn step<O: Observed, L: Ledger>(
         Family::Loan => act_loan::step(terms, plan, state, event, seen, steps),
         Family::Amortizing => act_amort::step(terms, plan, state, event, seen, steps),
         Family::Equity => act_equity::step(terms, plan, state, event, seen, steps),
+        Family::Option => act_option::step(terms, plan, state, event, seen, steps),
     }
 }
 
-/// The currency of each payoff, by its number.
-#[tactic(auto, using(crate::proofs::Currencies::currency_of_built))]
-pub fn currency_of(terms: &Terms) -> u32
+/// The currency of an event's payoff, by its number.
+pub fn currency_of(terms: &Terms, event: &Event) -> u32
     requires { IsBuilt terms.now.kind }
-    ensures { (event : Event) → result ≡ currency_of terms.now [] event }
+    ensures { result ≡ currency_of terms.now [] event.now }
 {
-    match family_of(&terms.kind) {
-        Family::Loan | Family::Amortizing | Family::Equity => own_currency(&terms.common),
+    match &terms.kind {
+        Kind::FXOUT(_) => act_equity::currency_of(terms, event),
+        _ => own_currency(&terms.common),
     }
 }
 

@@ -1,7 +1,8 @@
-//! Stocks: STK in full.
+//! Stocks and foreign exchange outrights: STK and FXOUT in full.
 #![tactic(auto)]
 
+mod equity;
+mod fxout;
 mod stk;
-mod table;
 
-pub use stk::{schedule, start, step};
+pub use equity::{currency_of, schedule, start, step};

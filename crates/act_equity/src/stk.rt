@@ -1,48 +1,65 @@
 //! STK: a stock, which pays the dividends that are observed.
-ghost use Rattle.std.specs.Prelude.{◌≡◌, ◌≢◌, [], Ok, Err};
-ghost use Rattle.act_kind.specs.Takes.{Takes};
-ghost use Rattle.act_model.specs.Kind.{type_of};
-ghost use Rattle.act_profile.specs.Plan.{plan_of};
-ghost use Rattle.act_profile.specs.Steps.{start_of, step_of};
+use act_kind::{Payment, Table, passed, signed, trade_payoff};
+use act_model::{Common, Event, EventType, State};
+use act_num::Fixed;
+use std::marker::Model;
 
-use crate::table::StockTable;
-use act_kind::{first_state, take_step, trade_plan};
-use act_model::{ContractType, Event, Observed, Plan, PlanFault, State, Stop, Terms};
-use act_num::{Fixed, Steps};
-use std::alloc::Global;
-use std::sync::ledger::Ledger;
-
-/// The scheduled events of a STK: its purchase and its termination. The one fault is `NoMemory`.
-#[tactic(auto, using(crate::proofs::Stocks::plan_of_stock))]
-pub fn schedule(alloc: Global, terms: &Terms) -> Result<Plan, PlanFault>
-    requires { type_of terms.now.kind ≡ ContractType.STK }
-    ensures { result ≢ Err PlanFault.NoMemory → result ≡ plan_of terms.now }
-{
-    trade_plan(alloc, &terms.common)
+/// A stock: its terms, which are those that every contract has. Contracts see them.
+#[derive(Drop)]
+pub(crate) struct Stock<'a> {
+    common: &'a Common,
 }
 
-/// The state that a STK begins with, which is always defined. It takes no memory.
-#[tactic(auto, using(crate::proofs::Stocks::start_of_stock))]
-pub fn start(terms: &Terms, plan: &Plan) -> Result<State, Stop>
-    requires { type_of terms.now.kind ≡ ContractType.STK }
-    ensures { result ≡ start_of terms.now plan.now }
-{
-    Ok(first_state(terms.common.status_date))
+impl<'a> Model for Stock<'a> {
+    ghost use Rattle.act_model.specs.declared.terms.Common.{Common};
+
+    ghost Value = { Common };
+
+    ghost view = { λ s. s.common.now };
 }
 
-/// What an event of a STK pays and the state after it, or why the run stops there: first the rate of settlement that is
-/// missing, and then an amount that is undefined. Where it is Ok it ticks once, and else not at all. It takes no memory.
-pub fn step<O: Observed, L: Ledger>(
-    terms: &Terms,
-    plan: &Plan,
-    state: &State,
-    event: &Event,
-    seen: &O,
-    steps: &mut Steps<L>,
-) -> Result<(Fixed, State), Stop>
-    requires { type_of terms.now.kind ≡ ContractType.STK }
-    ensures { Takes result (step_of terms.now plan.now (O.entries seen.now) [] state.now event.now) steps.old steps.new }
-{
-    let table = StockTable::new(terms.common);
-    take_step(terms, plan, &table, state, event, seen, steps)
+impl<'a> Stock<'a> {
+    ghost use Rattle.std.specs.Prelude.{◌≡◌};
+
+    /// The stock of these terms.
+    pub(crate) fn new(common: &'a Common) -> Stock<'a>
+        ensures { result ≡ common.now }
+    {
+        Stock { common }
+    }
+}
+
+impl Table for Stock<'_> {
+    ghost use Rattle.act_profile.specs.Equity.{stock_line};
+    ghost use Rattle.act_profile.specs.Trade.{passed};
+
+    ghost line = { λ s event. stock_line s event event.kind };
+
+    ghost accrual = { λ s event state. passed event.kind event.calc state };
+
+    fn payment(&self, event: &Event) -> Payment {
+        match event.kind {
+            EventType::DV | EventType::PRD | EventType::TD => Payment::Amount,
+            _ => Payment::Nothing,
+        }
+    }
+
+    fn change_code(&self, _event: &Event) -> Option<u32> {
+        None
+    }
+
+    fn accrued(&self, event: &Event, state: &State) -> Option<State> {
+        Some(passed(event.kind, event.calc, state))
+    }
+
+    fn payoff(&self, event: &Event, _value: Option<Fixed>, _state: &State) -> Option<Fixed> {
+        match event.kind {
+            EventType::DV => Some(signed(self.common.contract_role, event.value)),
+            other => Some(trade_payoff(self.common, other)),
+        }
+    }
+
+    fn state_after(&self, _event: &Event, _value: Option<Fixed>, state: &State) -> Option<State> {
+        Some(*state)
+    }
 }

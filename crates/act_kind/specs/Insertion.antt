@@ -4,7 +4,7 @@ use Rattle.std.specs.List.{prefix_len}
 
 -- how many dates are earlier, from the front on
 abbrev pub earlier : ℤ → List ℤ → ℕ
-earlier x xs = prefix_len (λ d. int_lt d x) xs
+earlier date dates = prefix_len (λ d. int_lt d date) dates
 
 -- a date comes after the one before it, where there is one
 abbrev pub is_later : Option ℤ → ℤ → Bool

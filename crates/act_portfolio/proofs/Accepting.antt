@@ -12,55 +12,56 @@ use Rattle.act_profile.specs.Outcomes.{map_ok, then_ok}
 use Rattle.act_profile.specs.Plan.{plan_of}
 use Rattle.act_terms.specs.Contract.{NamedTerms, contract_of}
 use Rattle.serde_json.specs.Data.{Data}
-use Rattle.act_portfolio.specs.Known.{IsContract, checked_plans, together}
+use Rattle.act_portfolio.specs.Binding.{bound, first_unfit, fitting}
+use Rattle.act_portfolio.specs.Known.{IsContract, checked, together}
 use Rattle.act_portfolio.specs.Reading.{IsAccepted, accepted, contracts_from, first_repeated, plans_from, portfolio_listed, unrepeated, unused_lists, within_limit}
 use Rattle.act_portfolio.specs.Refusal.{Refusal, refused_terms, refusing}
+use Rattle.act_portfolio.proofs.Fitting.{bound_is_built}
 use Rattle.act_portfolio.proofs.PlannedSoFar.{each_planned}
 use Rattle.act_portfolio.proofs.ReadSoFar.{Read}
 
 -- ---- the portfolio, or its refusal, step by step
 
-regrouped : {A B C D : Type 0} (a : Result A Refusal) (b : Result B Refusal) (c : Result C Refusal) (f : C → D) → then_ok (λ few. then_ok (λ ids. then_ok (λ plans. Ok (f plans)) c) b) a ≡ map_ok f (then_ok (λ few. then_ok (λ ids. c) b) a)
-regrouped (Err refusal) b c f = refl
-regrouped (Ok a) (Err refusal) c f = refl
-regrouped (Ok a) (Ok b) (Err refusal) f = refl
-regrouped (Ok a) (Ok b) (Ok c) f = refl
+regrouped : {A B C D E : Type 0} (a : Result A Refusal) (b : Result B Refusal) (c : Result C Refusal) (d : Result D Refusal) (f : D → E)
+    → then_ok (λ few. then_ok (λ ids. then_ok (λ fit. then_ok (λ plans. Ok (f plans)) d) c) b) a ≡ then_ok (λ fit. map_ok f d) (then_ok (λ few. then_ok (λ ids. c) b) a)
+regrouped (Err refusal) b c d f = refl
+regrouped (Ok a) (Err refusal) c d f = refl
+regrouped (Ok a) (Ok b) (Err refusal) d f = refl
+regrouped (Ok a) (Ok b) (Ok c) (Err refusal) f = refl
+regrouped (Ok a) (Ok b) (Ok c) (Ok d) f = refl
 
 pub refused_contracts : (contracts : List Data) (refusal : Refusal) → contracts_from zero no_names contracts ≡ Err refusal → portfolio_listed contracts ≡ Err refusal
 unfolding portfolio_listed
 refused_contracts contracts refusal is = rw is refl
 
 module _ (contracts : List Data) (named : List NamedTerms) (names : NameLists) (read : contracts_from zero no_names contracts ≡ Ok (named, names)) where
-  by_checks : portfolio_listed contracts ≡ map_ok (accepted contracts named names) (checked_plans contracts named)
+  by_checks : portfolio_listed contracts ≡ then_ok (λ fit. map_ok (accepted contracts named names) (plans_from zero (map bound named))) (checked contracts named)
   unfolding portfolio_listed
-  by_checks = rw read (regrouped (within_limit contracts) (unrepeated (first_repeated [] (map (λ c. c.id) named)) (map (λ c. c.id) named)) (plans_from zero (map (λ c. c.terms) named)) (accepted contracts named names))
+  by_checks =
+      rw read (regrouped (within_limit contracts) (unrepeated (first_repeated [] (map (λ c. c.id) named)) (map (λ c. c.id) named)) (fitting (first_unfit named) named) (plans_from zero (map bound named)) (accepted contracts named names))
 
-  pub refused_checks : (refusal : Refusal) → checked_plans contracts named ≡ Err refusal → portfolio_listed contracts ≡ Err refusal
-  refused_checks refusal is = by_checks ∙ ap (map_ok (accepted contracts named names)) is
+  pub refused_checks : (refusal : Refusal) → checked contracts named ≡ Err refusal → portfolio_listed contracts ≡ Err refusal
+  refused_checks refusal is = by_checks ∙ ap (then_ok (λ fit. map_ok (accepted contracts named names) (plans_from zero (map bound named)))) is
 
-  accepts : (plans : List EventPlan) → checked_plans contracts named ≡ Ok plans → portfolio_listed contracts ≡ Ok (accepted contracts named names plans)
-  accepts plans is = by_checks ∙ ap (map_ok (accepted contracts named names)) is
+  pub behind_checks : checked contracts named ≡ Ok named → portfolio_listed contracts ≡ map_ok (accepted contracts named names) (plans_from zero (map bound named))
+  behind_checks is = by_checks ∙ ap (then_ok (λ fit. map_ok (accepted contracts named names) (plans_from zero (map bound named)))) is
 
-last_of : {A B C : Type 0} (a : Result A Refusal) (b : Result B Refusal) (c : Result C Refusal) (x : C) → then_ok (λ few. then_ok (λ ids. c) b) a ≡ Ok x → c ≡ Ok x
-last_of (Err refusal) b c x is = absurd (cc)
-last_of (Ok a) (Err refusal) c x is = absurd (cc)
-last_of (Ok a) (Ok b) c x is = is
+  pub refused_plans : (refusal : Refusal) → checked contracts named ≡ Ok named → plans_from zero (map bound named) ≡ Err refusal → portfolio_listed contracts ≡ Err refusal
+  refused_plans refusal is plans = behind_checks is ∙ ap (map_ok (accepted contracts named names)) plans
 
--- contracts that are checked have their plans
-plans_are : (contracts : List Data) (named : List NamedTerms) (plans : List EventPlan) → checked_plans contracts named ≡ Ok plans → plans_from zero (map (λ c. c.terms) named) ≡ Ok plans
-plans_are contracts named plans is =
-    last_of (within_limit contracts) (unrepeated (first_repeated [] (map (λ c. c.id) named)) (map (λ c. c.id) named)) (plans_from zero (map (λ c. c.terms) named)) plans is
+  accepts : (plans : List EventPlan) → checked contracts named ≡ Ok named → plans_from zero (map bound named) ≡ Ok plans → portfolio_listed contracts ≡ Ok (accepted contracts named names plans)
+  accepts plans is planned = behind_checks is ∙ ap (map_ok (accepted contracts named names)) planned
 
 -- ---- what is true of an accepted portfolio
 
--- what is true of the terms of each contract is true of the terms at each place
-at_place : (P : Terms → Type 0) (named : List NamedTerms) → All (λ n. P n.terms) named → (c : ℕ) (t : Terms) → slice_get (map (λ n. n.terms) named) c ≡ Some t → P t
+-- what is true of the bound terms of each contract is true of the terms at each place
+at_place : (P : Terms → Type 0) (named : List NamedTerms) → All (λ n. P (bound n)) named → (c : ℕ) (t : Terms) → slice_get (map bound named) c ≡ Some t → P t
 at_place P named all c t here = elim (slice_get_cases named c).1 [
   | inl found ↦
-      let same : found.0.terms ≡ t = same_Some _ _ (sym (slice_get-map (λ n. n.terms) named c ∙ ap (option_map (λ n. n.terms)) found.2) ∙ here) in
-      let holds : P found.0.terms = subst (λ n. P n.terms) found.3 (all c found.0 found.1) in
+      let same : bound found.0 ≡ t = same_Some _ _ (sym (slice_get-map bound named c ∙ ap (option_map bound) found.2) ∙ here) in
+      let holds : P (bound found.0) = subst (λ n. P (bound n)) found.3 (all c found.0 found.1) in
       subst P same holds
-  | inr past ↦ let none : None ≡ Some t = sym (slice_get-map (λ n. n.terms) named c ∙ ap (option_map (λ n. n.terms)) past.1) ∙ here in absurd (cc)
+  | inr past ↦ let none : None ≡ Some t = sym (slice_get-map bound named c ∙ ap (option_map bound) past.1) ∙ here in absurd (cc)
 ]
 
 pub plan_at : (terms : List Terms) (plans : List EventPlan) → map plan_of terms ≡ map Ok plans → (c : ℕ) (t : Terms) (plan : EventPlan) → slice_get terms c ≡ Some t → plan ≡ get_or plans c plan → plan_of t ≡ Ok plan
@@ -109,19 +110,19 @@ unused_are_many (n ∷ named) [] many = absurd (omega arith)
 unused_are_many (n ∷ named) (d ∷ contracts) many = ap suc (unused_are_many named contracts (omega arith))
 
 module _ (contracts : List Data) (named : List NamedTerms) (read : NameLists) (names : NameLists) (terms : List Terms) (plans : List EventPlan) (children : List (List ℕ)) (unused : List (List (List ℕ))) where
-  module _ (are_read : contracts_from zero no_names contracts ≡ Ok (named, read)) (few : length contracts ≤ 4096) (names_are : names ≡ record read { contracts = map (λ c. c.id) named }) (terms_are : terms ≡ map (λ c. c.terms) named)
-      (planned : checked_plans contracts named ≡ Ok plans) (none : children ≡ map (λ t. []) terms) (unused_are : unused ≡ unused_lists named contracts) where
+  module _ (are_read : contracts_from zero no_names contracts ≡ Ok (named, read)) (few : length contracts ≤ 4096) (names_are : names ≡ record read { contracts = map (λ c. c.id) named }) (terms_are : terms ≡ map bound named)
+      (checks : checked contracts named ≡ Ok named) (planned : plans_from zero terms ≡ Ok plans) (none : children ≡ map (λ t. []) terms) (unused_are : unused ≡ unused_lists named contracts) where
     pub whole : portfolio_listed contracts ≡ Ok (together names terms plans children unused)
-    whole = accepts contracts named read are_read plans planned ∙ rw (names_are, none, terms_are, unused_are, map-map) refl
+    whole = accepts contracts named read are_read plans checks (rw terms_are at planned) ∙ rw (names_are, none, terms_are, unused_are, map-map) refl
 
     pub holds : All IsContract named → IsAccepted names terms plans children unused
     holds known =
         let many = as_many_read contracts zero no_names named read are_read in
         record {
-          built = λ c t here. at_place (λ t. IsBuilt t.kind) named (λ k d within. (known k d within).built) c t (rw terms_are at here);
-          planned = rw terms_are (each_planned (map (λ c. c.terms) named) zero plans (plans_are contracts named plans planned));
+          built = λ c t here. at_place (λ t. IsBuilt t.kind) named (λ k d within. bound_is_built _ (known k d within)) c t (rw terms_are at here);
+          planned = each_planned terms zero plans planned;
           childless = none;
-          ids = rw (names_are, terms_are) (length-map named (λ c. c.id) ∙ sym (length-map named (λ c. c.terms)));
-          unused_lists = rw (unused_are, terms_are) (unused_are_many named contracts many ∙ sym (length-map named (λ c. c.terms)));
-          few = rw terms_are (omega (arith, length-map named (λ c. c.terms)));
+          ids = rw (names_are, terms_are) (length-map named (λ c. c.id) ∙ sym (length-map named bound));
+          unused_lists = rw (unused_are, terms_are) (unused_are_many named contracts many ∙ sym (length-map named bound));
+          few = rw terms_are (omega (arith, length-map named bound));
         }

@@ -25,6 +25,9 @@ by_kind (kind.LAM lam) plan built = (refl, refl)
 by_kind (kind.NAM nam) plan built = (refl, refl)
 by_kind (kind.ANN ann) plan built = (refl, refl)
 by_kind (kind.STK stk) plan built = (refl, refl)
+by_kind (kind.FXOUT fxout) plan built = (refl, refl)
+by_kind (kind.OPTNS optns) plan built = (refl, refl)
+by_kind (kind.FUTUR futur) plan built = (refl, refl)
 by_kind other plan built = absurd built
 
 -- a kind that is built counts the events of its plan

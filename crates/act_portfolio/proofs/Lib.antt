@@ -1,5 +1,6 @@
 pub mod Accepting
 pub mod Counted
+pub mod Fitting
 pub mod Listed
 pub mod Lists
 pub mod NamedSoFar

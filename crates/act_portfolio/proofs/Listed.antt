@@ -5,11 +5,8 @@ use Rattle.serde_json.specs.Events.{items_len}
 use Rattle.serde_json.specs.Find.{as_array}
 use Rattle.serde_json.specs.View.{items_of, items_view, view}
 use Rattle.serde_json.specs.declared.value.Value.{Value}
-use Rattle.act_portfolio.specs.Reading.{list_of, listed}
-
-listed_again : (ds : List Data) → listed (items_of ds) ≡ ds
-listed_again [] = refl
-listed_again (d ∷ ds) = ap (λ more. d ∷ more) (listed_again ds)
+use Rattle.act_terms.proofs.Elements.{listed_again}
+use Rattle.act_portfolio.specs.Reading.{list_of}
 
 as_many : (ds : List Data) → items_len (items_of ds) ≡ length ds
 as_many [] = refl

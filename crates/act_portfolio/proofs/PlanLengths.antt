@@ -11,12 +11,16 @@ use Rattle.act_model.specs.declared.event.EventType.{EventType}
 use Rattle.act_model.specs.declared.event.EventType.TheVariants.{PRD, TD}
 use Rattle.act_model.specs.declared.run.PlanFault.{PlanFault}
 use Rattle.act_model.specs.declared.run.PlanFault.TheVariants.{TooManyDates, DateRange}
+use Rattle.act_date.specs.declared.cycle.Cycle.{Cycle}
 use Rattle.act_model.specs.declared.terms.Common.{Common}
+use Rattle.act_model.specs.declared.terms.Fxout.{Fxout}
 use Rattle.act_model.specs.declared.terms.Kind.{Kind}
 use Rattle.act_model.specs.declared.terms.Kind.TheVariants as kind
 use Rattle.act_model.specs.declared.terms.Terms.{Terms}
 use Rattle.act_profile.specs.Built.{IsBuilt}
 use Rattle.act_profile.specs.Dates.{maturity_of_lam}
+use Rattle.act_profile.specs.Equity.{outright_plan}
+use Rattle.act_profile.specs.Exercise.{events_exercised_on, exercise_events, exercise_plan}
 use Rattle.act_profile.specs.Lists.{all_of, insert_by}
 use Rattle.act_profile.specs.LoanPlan.{loan_dates, loan_plan, with_redemptions}
 use Rattle.act_profile.specs.LoanTerms.{LoanTerms}
@@ -124,12 +128,37 @@ trades_are_within common plan is =
     let termination = event_where_given TD common.termination_date in
     rw (← e) (omega (arith, ordered_are_as_many (trade_events common), length-append purchase termination, one_at_most PRD common.purchase_date, one_at_most TD common.termination_date))
 
+-- purchase, termination, and what is made of each type of event in turn
+plain_is_within : (common : Common) (types : List (Option (List Planned))) (plan : EventPlan) → map_ok (λ events. plain_plan (in_order events)) (events_by_type common 0 types) ≡ Ok plan → length plan.events ≤ 4096
+plain_is_within common types plan is = by_events (events_by_type common 0 types) refl is
+  where
+    by_events : (events : Result (List Event) PlanFault) → events_by_type common 0 types ≡ events → map_ok (λ events. plain_plan (in_order events)) events ≡ Ok plan → length plan.events ≤ 4096
+    by_events (Err fault) are is = absurd (cc)
+    by_events (Ok events) are is =
+        let e : plain_plan (in_order events) ≡ plan = cc in
+        rw (← e) (omega (arith, types_are_within common types 0 events (omega arith) are, ordered_are_as_many events))
+
+outright_is_within : (common : Common) (fxout : Fxout) (plan : EventPlan) → outright_plan common fxout ≡ Ok plan → length plan.events ≤ 4096
+unfolding outright_plan
+outright_is_within common fxout plan is = plain_is_within common _ plan is
+
+-- purchase, termination, an exercise and its settlement
+exercise_is_within : (common : Common) (period : Cycle) (maturity : ℤ) (plan : EventPlan) → ◌≡◌ {A = Result EventPlan PlanFault} (Ok (exercise_plan common period maturity)) (Ok plan) → length plan.events ≤ 4096
+exercise_is_within common period maturity plan is =
+    let e : exercise_plan common period maturity ≡ plan = cc in
+    let purchase = event_where_given PRD common.purchase_date in
+    let termination = event_where_given TD common.termination_date in
+    rw (← e) (omega (arith, ordered_are_as_many (events_exercised_on common period maturity), length-append (trade_events common) (exercise_events common period maturity), length-append purchase termination, one_at_most PRD common.purchase_date, one_at_most TD common.termination_date))
+
 by_kind : (common : Common) (contract : Kind) (plan : EventPlan) → IsBuilt contract → plan_by common contract ≡ Ok plan → length plan.events ≤ 4096
 by_kind common (kind.PAM pam) plan built is = loan_is_within _ plan is
 by_kind common (kind.LAM lam) plan built is = derived_is_within _ (maturity_of_lam lam) plan is
 by_kind common (kind.NAM nam) plan built is = loan_is_within _ plan is
 by_kind common (kind.ANN ann) plan built is = loan_is_within _ plan is
 by_kind common (kind.STK stk) plan built is = trades_are_within common plan is
+by_kind common (kind.FXOUT fxout) plan built is = outright_is_within common fxout plan is
+by_kind common (kind.OPTNS optns) plan built is = exercise_is_within common optns.settlement_period optns.maturity_date plan is
+by_kind common (kind.FUTUR futur) plan built is = exercise_is_within common futur.settlement_period futur.maturity_date plan is
 by_kind common other plan built is = absurd built
 
 -- the plan of a kind that is built

@@ -1,5 +1,5 @@
 -- What is known of contracts on the way to a portfolio.
-use Rattle.std.specs.Prelude.{◌≡◌, ℕ, zero, true, false, List, [], codes, map, Result}
+use Rattle.std.specs.Prelude.{◌≡◌, ℕ, true, false, List, [], codes, map, Result}
 use Rattle.std.specs.Str.{bytes_eq}
 use Rattle.act_profile.specs.Built.{IsBuilt}
 use Rattle.act_model.specs.Name.{is_name}
@@ -7,7 +7,8 @@ use Rattle.act_model.specs.Names.{NameLists}
 use Rattle.act_model.specs.Run.{EventPlan}
 use Rattle.act_model.specs.declared.terms.Terms.{Terms}
 use Rattle.act_terms.specs.Contract.{NamedTerms}
-use Rattle.act_portfolio.specs.Reading.{Accepted, first_repeated, plans_from, unrepeated, within_limit}
+use Rattle.act_portfolio.specs.Binding.{first_unfit, fitting}
+use Rattle.act_portfolio.specs.Reading.{Accepted, first_repeated, unrepeated, within_limit}
 use Rattle.act_portfolio.specs.Refusal.{Refusal, ◌>>=◌}
 use Rattle.serde_json.specs.Data.{Data}
 
@@ -17,12 +18,12 @@ pub record IsContract (c : NamedTerms) : Type 0 where
   pub no_star : bytes_eq c.id (codes "*") ≡ false
   pub built : IsBuilt c.terms.kind
 
--- the plans of contracts that are read from a list: there are no more than there may be, and no name comes twice
-abbrev pub checked_plans : List Data → List NamedTerms → Result (List EventPlan) Refusal
-checked_plans contracts named = do
+-- contracts that are read from a list are no more than there may be, no name comes twice, and the references of each fit its kind
+abbrev pub checked : List Data → List NamedTerms → Result (List NamedTerms) Refusal
+checked contracts named = do
   few ← within_limit contracts
   ids ← unrepeated (first_repeated [] (map (λ (c : NamedTerms). c.id) named)) (map (λ (c : NamedTerms). c.id) named)
-  plans_from zero (map (λ (c : NamedTerms). c.terms) named)
+  fitting (first_unfit named) named
 
 -- what a portfolio has, together
 abbrev pub together : NameLists → List Terms → List EventPlan → List (List ℕ) → List (List (List ℕ)) → Accepted

@@ -1,3 +1,4 @@
+pub mod Binding
 pub mod Counts
 pub mod Known
 pub mod Reading

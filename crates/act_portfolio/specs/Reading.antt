@@ -12,9 +12,11 @@ use Rattle.act_profile.specs.Built.{IsBuilt}
 use Rattle.act_profile.specs.Plan.{plan_of}
 use Rattle.act_profile.specs.Run.{Contracts}
 use Rattle.act_terms.specs.Contract.{NamedTerms, contract_of}
+use Rattle.act_terms.specs.Structure.{listed}
 use Rattle.act_terms.specs.Used.{unused_names}
+use Rattle.act_portfolio.specs.Binding.{bound, first_unfit, fitting}
 use Rattle.act_portfolio.specs.Refusal.{Refusal, ◌>>=◌, no_json, no_list, refused_plan, refused_terms, refusing, repeated_id, too_many_contracts}
-use Rattle.serde_json.specs.Data.{Data, array, Items, no_items, item}
+use Rattle.serde_json.specs.Data.{Data, array}
 
 -- a portfolio: its contracts by their numbers, the names of all that they name, and for each contract the names of its object that its kind
 -- doesn't use
@@ -25,10 +27,6 @@ pub record Accepted : Type 0 where
 
 -- ---- the outer list
 
-abbrev pub listed : Items → List Data
-listed no_items = []
-listed (item value items) = value ∷ listed items
-
 -- the list that a value is
 abbrev pub list_of : Data → Result (List Data) Refusal
 list_of (array items) = Ok (listed items)
@@ -36,7 +34,7 @@ list_of other = Err no_list
 
 -- ---- contract by contract
 
--- the names and terms of contracts from a number on, among the names of what those before them name, and the names with what these name; or
+-- the names, terms and references of contracts from a number on, among the names of what those before them name, and the names with what these name; or
 -- the first term that is refused
 unfoldable pub contracts_from : ℕ → NameLists → List Data → Result (List NamedTerms × NameLists) Refusal
 contracts_from number names [] = Ok ([], names)
@@ -73,12 +71,12 @@ plans_from number (terms ∷ others) = do
 abbrev pub unused_lists : List NamedTerms → List Data → List (List (List ℕ))
 unused_lists named contracts = map (λ (one : NamedTerms × Data). unused_names (type_of one.0.terms.kind) one.1) (zip named contracts)
 
--- the contracts together; none of them refers to others
+-- the contracts together, their terms bound to what they refer to; none of them refers to other contracts
 abbrev pub accepted : List Data → List NamedTerms → NameLists → List EventPlan → Accepted
 accepted contracts named names plans =
     record {
       names = record names { contracts = map (λ (c : NamedTerms). c.id) named };
-      contracts = record { terms = map (λ (c : NamedTerms). c.terms) named; plans = plans; children = map (λ (c : NamedTerms). []) named };
+      contracts = record { terms = map bound named; plans = plans; children = map (λ (c : NamedTerms). []) named };
       unused = unused_lists named contracts;
     }
 
@@ -88,7 +86,8 @@ portfolio_listed contracts = do
   read ← contracts_from zero no_names contracts
   few ← within_limit contracts
   ids ← unrepeated (first_repeated [] (map (λ (c : NamedTerms). c.id) read.0)) (map (λ (c : NamedTerms). c.id) read.0)
-  plans ← plans_from zero (map (λ (c : NamedTerms). c.terms) read.0)
+  fit ← fitting (first_unfit read.0) read.0
+  plans ← plans_from zero (map bound read.0)
   Ok (accepted contracts read.0 read.1 plans)
 
 -- the portfolio of a file's bytes
@@ -100,7 +99,7 @@ portfolio_of bytes = do
 
 -- ---- what is true of an accepted portfolio
 
--- each contract is of a kind that is built, and its plan is that of its terms; it refers to no others; for each there is a name and a list
+-- each contract is of a kind that is built, and its plan is that of its terms; it refers to no other contracts; for each there is a name and a list
 -- of unused names; there are at most 4,096
 pub record IsAccepted (names : NameLists) (terms : List Terms) (plans : List EventPlan) (children : List (List ℕ)) (unused : List (List (List ℕ))) : Type 0 where
   pub built : (c : ℕ) (t : Terms) → slice_get terms c ≡ Some t → IsBuilt t.kind

@@ -40,6 +40,10 @@ too_many_contracts = record { number = 16; place = 4097; what = nothing }
 abbrev pub repeated_id : ℕ → Refusal
 repeated_id place = record { number = 17; place = suc place; what = codes "contractID" }
 
+-- the references of a contract, by its place from 0, don't fit its kind
+abbrev pub bad_reference : ℕ → Refusal
+bad_reference place = record { number = 20; place = suc place; what = codes "contractStructure" }
+
 -- a term of the contract at a place from 0 is refused. Want of memory is no refusal, and no definition gives it
 abbrev pub refused_terms : ℕ → TermsFault → Refusal
 refused_terms place (terms.Refused term) = record { number = refusal_number term.cause; place = suc place; what = term.term }

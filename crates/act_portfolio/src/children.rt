@@ -17,7 +17,7 @@ pub(crate) fn child_lists(alloc: Global, terms: &[Terms]) -> Result<Vec<Vec<u32>
     Ok(lists)
 }
 
-/// The contracts that a contract of that kind refers to: no kind that is built refers to others.
+/// The contracts that a contract of that kind refers to: no kind that is built refers to contracts.
 fn children_of(alloc: Global, _kind: &Kind) -> Vec<u32>
     ensures { result.items ≡ [] }
 {

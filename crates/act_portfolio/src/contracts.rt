@@ -9,13 +9,12 @@ ghost use Rattle.act_portfolio.specs.Reading.{contracts_from};
 ghost use Rattle.act_portfolio.specs.Refusal.{refusal_of, refused_terms, refusing};
 
 use crate::fault::{PortfolioFault, refused_terms};
-use act_model::{Names, Terms};
-use act_num::NoMemory;
+use act_model::Names;
 use act_terms::{NamedTerms, read_contract};
 use serde_json::Value;
 use std::alloc::Global;
 
-/// The names and the terms of contracts, in their order. What the terms name is added to the names.
+/// The names, the terms and the references of contracts, in their order. What the terms name is added to the names.
 pub(crate) fn read_contracts(
     alloc: Global,
     contracts: &[Value],
@@ -55,15 +54,4 @@ fn next_contract(
         Ok(named) => Ok(named),
         Err(fault) => Err(refused_terms(alloc, number, fault)),
     }
-}
-
-/// The terms of contracts, without their names.
-pub(crate) fn terms_alone(alloc: Global, named: Vec<NamedTerms>) -> Result<Vec<Terms>, NoMemory>
-    ensures { IfOk result (λ terms. terms.items ≡ map (λ c. c.terms) named.items) }
-{
-    let mut terms = Vec::new(alloc);
-    for contract in named {
-        terms.push(contract.terms)?;
-    }
-    Ok(terms)
 }

@@ -17,19 +17,20 @@ pub enum PortfolioFault {
     /// | Number | Where | What |
     /// |---|---|---|
     /// | 10 | the bytes are no JSON | `-` |
-    /// | 11 | the value is no list; a contract is no object; a term is given and is no text | the term or `-` |
+    /// | 11 | the value is no list; a contract is no object; a term is given and is no text; a structure has another shape | the term or `-` |
     /// | 12 | a required term isn't given | the term |
-    /// | 13 | a term has another form or breaks its bound | the term |
-    /// | 14 | a term that names something has another form | the term |
+    /// | 13 | a term has another form or breaks its bound; an element of a structure has no such type or role | the term |
+    /// | 14 | a term that names something, or an element of a structure, has another form | the term |
     /// | 15 | no contract has this type | `contractType` |
-    /// | 24 | contracts of this type aren't built yet; it comes where 15 does | `contractType` |
+    /// | 24 | contracts of this type aren't built yet, where 15 comes; or a structure refers to a contract, behind the structure | `contractType` or `contractStructure` |
     /// | 16 | there are more than 4,096 contracts; the place is 4097 | `-` |
     /// | 17 | an earlier contract has the same name | `contractID` |
+    /// | 20 | the references don't fit the kind | `contractStructure` |
     /// | 18 | a contract has more than 4,096 scheduled events | `-` |
     /// | 19 | a date of a contract leaves 1900 to 2299 | `-` |
     ///
-    /// Terms come contract by contract, in the order of this profile's tables; then 16; then 17; then 18 and 19 contract
-    /// by contract, in the order of the types of events.
+    /// Terms come contract by contract, in the order of this profile's tables; then 16; then 17; then 20 contract by contract;
+    /// then 18 and 19 contract by contract, in the order of the types of events.
     Refused {
         /// Its number, 10 to 24.
         number: u8,

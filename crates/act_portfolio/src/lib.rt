@@ -1,6 +1,7 @@
 //! Portfolios: what the bytes of a file are, contract by contract, or why they are refused.
 #![tactic(auto)]
 
+mod binding;
 mod children;
 mod contracts;
 mod fault;

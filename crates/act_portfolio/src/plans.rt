@@ -3,31 +3,27 @@ ghost use Rattle.std.specs.Prelude.{◌≡◌, ◌<◌, ◌≤◌, ◌^◌, Ok, 
 ghost use Rattle.std.specs.List.{All};
 ghost use Rattle.serde_json.specs.View.{view};
 ghost use Rattle.act_profile.specs.Plan.{plan_of};
-ghost use Rattle.act_portfolio.specs.Known.{IsContract};
+ghost use Rattle.act_profile.specs.Built.{IsBuilt};
 ghost use Rattle.act_portfolio.specs.Reading.{plans_from, unused_lists};
 ghost use Rattle.act_portfolio.specs.Refusal.{refusal_of, refused_plan, refusing};
 
 use crate::fault::{PortfolioFault, refused_plan};
 use act_contract::schedule;
-use act_model::Plan;
+use act_model::{Plan, Terms};
 use act_num::NoMemory;
 use act_terms::{NamedTerms, unused_names};
 use serde_json::Value;
 use std::alloc::Global;
 
 /// The plans of contracts, in their order.
-pub(crate) fn plan_contracts(
-    alloc: Global,
-    named: &[NamedTerms],
-) -> Result<Vec<Plan>, PortfolioFault>
-    requires contracts { All IsContract named.now }
-    requires few { length named.now ≤ 2 ^ 28 }
-    ensures plans { IfOk result (λ plans. plans_from zero (map (λ c. c.terms) named.now) ≡ Ok plans.items) }
-    ensures refused { IfErr result (λ fault. IfSome (refusal_of fault) (λ refusal.
-        plans_from zero (map (λ c. c.terms) named.now) ≡ Err refusal)) }
+pub(crate) fn plan_contracts(alloc: Global, terms: &[Terms]) -> Result<Vec<Plan>, PortfolioFault>
+    requires built { All (λ t. IsBuilt t.kind) terms.now }
+    requires few { length terms.now ≤ 2 ^ 28 }
+    ensures plans { IfOk result (λ plans. plans_from zero terms.now ≡ Ok plans.items) }
+    ensures refused { IfErr result (λ fault. IfSome (refusal_of fault) (λ refusal. plans_from zero terms.now ≡ Err refusal)) }
 {
     let mut plans = Vec::new(alloc);
-    for (place, contract) in named.iter().enumerate() {
+    for (place, contract) in terms.iter().enumerate() {
         let plan = next_plan(alloc, contract, place as u32)?;
         plans.push(plan)?;
     }
@@ -35,14 +31,14 @@ pub(crate) fn plan_contracts(
 }
 
 /// The plan of the contract at that place from 0.
-fn next_plan(alloc: Global, contract: &NamedTerms, place: u32) -> Result<Plan, PortfolioFault>
-    requires contract { IsContract contract.now }
+fn next_plan(alloc: Global, terms: &Terms, place: u32) -> Result<Plan, PortfolioFault>
+    requires built { IsBuilt terms.now.kind }
     requires place { place < 2 ^ 28 }
-    ensures plan { IfOk result (λ plan. plan_of contract.now.terms ≡ Ok plan) }
+    ensures plan { IfOk result (λ plan. plan_of terms.now ≡ Ok plan) }
     ensures refused { IfErr result (λ fault. IfSome (refusal_of fault) (λ refusal.
-        refusing (refused_plan place) (plan_of contract.now.terms) ≡ Err refusal)) }
+        refusing (refused_plan place) (plan_of terms.now) ≡ Err refusal)) }
 {
-    match schedule(alloc, &contract.terms) {
+    match schedule(alloc, terms) {
         Ok(plan) => Ok(plan),
         Err(fault) => Err(refused_plan(alloc, place, fault)),
     }

@@ -7,12 +7,13 @@ ghost use Rattle.serde_json.specs.Find.{as_array};
 ghost use Rattle.serde_json.specs.View.{items_view, view};
 ghost use Rattle.act_json.specs.Reading.{json_of};
 ghost use Rattle.act_model.specs.Names.{no_names};
-ghost use Rattle.act_portfolio.specs.Known.{IsContract, checked_plans, together};
+ghost use Rattle.act_portfolio.specs.Known.{IsContract, checked, together};
 ghost use Rattle.act_portfolio.specs.Reading.{IsAccepted, list_of, portfolio_listed, portfolio_of, within_limit};
 ghost use Rattle.act_portfolio.specs.Refusal.{no_json, refusal_of, refusing};
 
+use crate::binding::{bound_terms, references_fit};
 use crate::children::child_lists;
-use crate::contracts::{read_contracts, terms_alone};
+use crate::contracts::read_contracts;
 use crate::fault::{PortfolioFault, refused};
 use crate::names::name_contracts;
 use crate::plans::{plan_contracts, unused_lists};
@@ -109,9 +110,10 @@ fn accepted(
         portfolio_listed (map view contracts.now) ≡ Err refusal)) }
 {
     let named = read_contracts(alloc, contracts, names)?;
-    let plans = checked_plans(alloc, contracts, &named, names)?;
+    check(alloc, contracts, &named, names)?;
     let unused = unused_lists(alloc, contracts, &named)?;
-    let terms = terms_alone(alloc, named)?;
+    let terms = bound_terms(alloc, named)?;
+    let plans = plan_contracts(alloc, &terms)?;
     let children = child_lists(alloc, &terms)?;
     Ok(Contracts {
         terms,
@@ -121,26 +123,26 @@ fn accepted(
     })
 }
 
-/// The plans of contracts that are read, where there are no more than there may be and no name comes twice. The names
-/// of the contracts are added to the names.
-fn checked_plans(
+/// Nothing where there are no more contracts than there may be, no name comes twice, and the references of each fit its
+/// kind. The names of the contracts are added to the names.
+fn check(
     alloc: Global,
     contracts: &[Value],
     named: &[NamedTerms],
     names: &mut Names,
-) -> Result<Vec<Plan>, PortfolioFault>
+) -> Result<(), PortfolioFault>
     requires contracts { All IsContract named.now }
     requires few { length named.now ≤ 2 ^ 28 }
     requires fresh { names.old.contracts ≡ [] }
-    ensures plans { IfOk result (λ plans. checked_plans (map view contracts.now) named.now ≡ Ok plans.items) }
+    ensures checked { OnOk result (checked (map view contracts.now) named.now ≡ Ok named.now) }
     ensures refused { IfErr result (λ fault. IfSome (refusal_of fault) (λ refusal.
-        checked_plans (map view contracts.now) named.now ≡ Err refusal)) }
+        checked (map view contracts.now) named.now ≡ Err refusal)) }
     ensures names { OnOk result (names.new ≡ record names.old { contracts = map (λ c. c.id) named.now }) }
     ensures few_contracts { OnOk result (length contracts.now ≤ MOST_CONTRACTS) }
 {
     within_limit(alloc, contracts)?;
     name_contracts(alloc, named, names)?;
-    plan_contracts(alloc, named)
+    references_fit(alloc, named)
 }
 
 /// Nothing where there are no more contracts than there may be.

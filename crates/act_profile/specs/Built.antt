@@ -1,9 +1,9 @@
 -- What is asked of the terms of a contract, kind by kind, as far as kinds are built: each cycle that they give leads on, so its period has at
--- least one unit. A kind that isn't built satisfies nothing. This profile's own.
+-- least one unit, and a LAM without a maturity has what it is derived from. A kind that isn't built satisfies nothing. This profile's own.
 use Rattle.std.specs.Prelude.{◌≡◌, int_lt, ℤ, pos, true, IsTrue, is_some, Option, Some, None}
 use Rattle.std.specs.Option.{ForSome}
 use Rattle.act_model.specs.declared.terms.Kind.{Kind}
-use Rattle.act_model.specs.declared.terms.Kind.TheVariants.{PAM, LAM, NAM, ANN, STK}
+use Rattle.act_model.specs.declared.terms.Kind.TheVariants.{PAM, LAM, NAM, ANN, STK, FXOUT, OPTNS, FUTUR}
 use Rattle.act_model.specs.declared.terms.Lam.{Lam}
 use Rattle.act_model.specs.declared.terms.Loan.{Loan}
 use Rattle.act_model.specs.declared.terms.Redemption.{Redemption}
@@ -37,6 +37,7 @@ abbrev pub DerivesMaturity : Lam → Option ℤ → Type 0
 DerivesMaturity lam (Some maturity) = Unit {0}
 DerivesMaturity lam None = ForSome lam.next_principal_redemption_payment (λ payment. int_lt (pos 0) payment ≡ true) × (IsTrue (is_some lam.next_principal_redemption_payment)) × (IsTrue (is_some lam.redemption.cycle_of_principal_redemption))
 
+-- what is asked of a LAM
 pub record LamIsBuilt (lam : Lam) : Type 0 where
   pub cycles : AmortizingLeadsOn lam.loan lam.redemption
   pub maturity : DerivesMaturity lam lam.maturity_date
@@ -48,4 +49,7 @@ IsBuilt (LAM lam) = LamIsBuilt lam
 IsBuilt (NAM nam) = AmortizingLeadsOn nam.loan nam.redemption
 IsBuilt (ANN ann) = AmortizingLeadsOn ann.loan ann.redemption
 IsBuilt (STK stk) = Unit {0}
+IsBuilt (FXOUT fxout) = Unit {0}
+IsBuilt (OPTNS optns) = Unit {0}
+IsBuilt (FUTUR futur) = Unit {0}
 IsBuilt other = ⊥

@@ -35,6 +35,9 @@ childless_built (kind.LAM lam) built = refl
 childless_built (kind.NAM nam) built = refl
 childless_built (kind.ANN ann) built = refl
 childless_built (kind.STK stk) built = refl
+childless_built (kind.FXOUT fxout) built = refl
+childless_built (kind.OPTNS optns) built = refl
+childless_built (kind.FUTUR futur) built = refl
 childless_built other built = absurd built
 
 -- ---- the events

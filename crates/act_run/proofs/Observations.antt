@@ -42,15 +42,16 @@ pub observed_are : (terms : Terms) (entries own : List Obs) → own ≡ observed
 unfolding events_observed
 observed_are terms entries own are = ap (events_from terms.kind 0) are
 
--- ---- behind the scheduled ones
+-- ---- with the scheduled ones, in order
 
-scheduled_built : (common : Common) (contract : Kind) (plan : EventPlan) (entries : List Obs) → IsBuilt contract → events_scheduled common contract plan entries ≡ plan.events
-scheduled_built common (kind.PAM pam) plan entries is = refl
-scheduled_built common (kind.LAM lam) plan entries is = refl
-scheduled_built common (kind.NAM nam) plan entries is = refl
-scheduled_built common (kind.ANN ann) plan entries is = refl
-scheduled_built common (kind.STK stk) plan entries is = refl
-scheduled_built common other plan entries is = absurd is
+pub ordered : (terms : Terms) (plan : EventPlan) (entries own : List Obs) (scheduled added events : List Event) → own ≡ observed_events entries (observed_as terms.common) →
+    scheduled ≡ events_scheduled terms.common terms.kind plan entries → added ≡ scheduled ++ events_from terms.kind 0 own → events ≡ in_order added →
+    events ≡ in_order (events_scheduled terms.common terms.kind plan entries ++ events_observed terms entries)
+ordered terms plan entries own scheduled added events are_own are_scheduled are_added are_ordered =
+    are_ordered ∙ ap in_order (are_added ∙ ap (λ (later : List Event). scheduled ++ later) (observed_are terms entries own are_own)
+    ∙ ap (λ (earlier : List Event). earlier ++ events_observed terms entries) are_scheduled)
+
+-- ---- those that count
 
 no_rows_built : (common : Common) (contract : Kind) → IsBuilt contract → events_of_children common contract [] ≡ []
 no_rows_built common (kind.PAM pam) is = refl
@@ -58,27 +59,16 @@ no_rows_built common (kind.LAM lam) is = refl
 no_rows_built common (kind.NAM nam) is = refl
 no_rows_built common (kind.ANN ann) is = refl
 no_rows_built common (kind.STK stk) is = refl
+no_rows_built common (kind.FXOUT fxout) is = refl
+no_rows_built common (kind.OPTNS optns) is = refl
+no_rows_built common (kind.FUTUR futur) is = refl
 no_rows_built common other is = absurd is
 
-no_exercise_built : (contract : Kind) (events : List Event) → IsBuilt contract → with_exercise contract events ≡ events
-no_exercise_built (kind.PAM pam) events is = refl
-no_exercise_built (kind.LAM lam) events is = refl
-no_exercise_built (kind.NAM nam) events is = refl
-no_exercise_built (kind.ANN ann) events is = refl
-no_exercise_built (kind.STK stk) events is = refl
-no_exercise_built other events is = absurd is
-
-merged_built : (terms : Terms) (plan : EventPlan) (entries : List Obs) → IsBuilt terms.kind →
-    events_of terms plan entries [] ≡ counting terms.common.status_date terms.kind (in_order (plan.events ++ events_observed terms entries))
+pub events_of-built : (terms : Terms) (plan : EventPlan) (entries : List Obs) (events counted all : List Event) → IsBuilt terms.kind →
+    events ≡ in_order (events_scheduled terms.common terms.kind plan entries ++ events_observed terms entries) →
+    counted ≡ counting terms.common.status_date terms.kind events → all ≡ with_exercise terms.kind counted → all ≡ events_of terms plan entries []
 unfolding events_of
-merged_built terms plan entries is =
-    let merged = ap (λ (rows : List Event). plan.events ++ events_observed terms entries ++ rows) (no_rows_built terms.common terms.kind is) ∙ append-nil (plan.events ++ events_observed terms entries) in
-    let scheduled = ap (λ (events : List Event). events ++ events_observed terms entries ++ events_of_children terms.common terms.kind []) (scheduled_built terms.common terms.kind plan entries is) in
-    no_exercise_built terms.kind _ is ∙ ap (λ (events : List Event). counting terms.common.status_date terms.kind (in_order events)) (scheduled ∙ merged)
-
-pub events_of-built : (terms : Terms) (plan : EventPlan) (entries : List Obs) (scheduled added ordered : List Event) → IsBuilt terms.kind →
-    scheduled ≡ plan.events → added ≡ scheduled ++ events_observed terms entries → ordered ≡ in_order added →
-    counting terms.common.status_date terms.kind ordered ≡ events_of terms plan entries []
-events_of-built terms plan entries scheduled added ordered is are_scheduled are_added are_ordered =
-    let merged = are_ordered ∙ ap in_order (are_added ∙ ap (λ (events : List Event). events ++ events_observed terms entries) are_scheduled) in
-    ap (counting terms.common.status_date terms.kind) merged ∙ sym (merged_built terms plan entries is)
+events_of-built terms plan entries events counted all is are_ordered are_counted are_all =
+    let own = events_scheduled terms.common terms.kind plan entries ++ events_observed terms entries in
+    let merged = ap (λ (rows : List Event). own ++ rows) (no_rows_built terms.common terms.kind is) ∙ append-nil own in
+    are_all ∙ ap (with_exercise terms.kind) (are_counted ∙ ap (λ (events : List Event). counting terms.common.status_date terms.kind events) (are_ordered ∙ ap in_order (sym merged)))

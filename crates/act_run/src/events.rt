@@ -1,9 +1,12 @@
 //! The events of a contract over a list of entries.
-ghost use Rattle.std.specs.Prelude.{◌≡◌, [], ◌∷◌, ◌++◌, IfOk};
+ghost use Rattle.std.specs.Prelude.{◌≡◌, List, [], ◌∷◌, ◌++◌, IfOk};
 ghost use Rattle.std.specs.List.{enumerate_from, flat_map};
+ghost use Rattle.act_model.specs.Observed.{observed_events};
+ghost use Rattle.act_model.specs.declared.observed.Obs.{Obs};
 ghost use Rattle.act_profile.specs.Contract.{observed_as};
 ghost use Rattle.act_profile.specs.Built.{IsBuilt};
-ghost use Rattle.act_profile.specs.Events.{event_observed, events_by, events_observed, events_of, events_of_entry, prepayment_events};
+ghost use Rattle.act_profile.specs.Events.{event_observed, events_by, events_observed, events_of, events_of_entry, events_scheduled, prepayment_events, with_exercise};
+ghost use Rattle.act_profile.specs.Order.{in_order};
 
 use act_date::Day;
 use act_kind::{put_in_order, retain_counting};
@@ -11,10 +14,11 @@ use act_model::{
     Common, Event, EventType, Kind, Obs, ObsKind, Observed, PenaltyType, Plan, Source, Terms,
 };
 use act_num::{Fixed, NoMemory};
+use act_option::{exercised_events, settled_events};
 use std::alloc::Global;
 
 /// The events of a contract that count, in order: those of its plan, and observed ones behind the scheduled ones of the
-/// same day and type.
+/// same day and type. An observed exercise moves that of an option, and only an exercise that counts is settled.
 pub fn events_of<O: Observed>(
     alloc: Global,
     terms: &Terms,
@@ -24,23 +28,54 @@ pub fn events_of<O: Observed>(
     requires { IsBuilt terms.now.kind }
     ensures { IfOk result (λ events. events.items ≡ events_of terms.now plan.now (O.entries seen.now) []) }
 {
-    let mut events = Vec::from_slice(alloc, &plan.events)?;
-    add_observed(alloc, &mut events, terms, seen)?;
-    put_in_order(&mut events)?;
-    Ok(retain_counting(terms, events))
+    let own = seen.events_of(alloc, observed_as(&terms.common))?;
+    let events = events_in_order(alloc, terms, plan, &own);
+    drop(own);
+    Ok(with_exercise(&terms.kind, retain_counting(terms, events?)))
 }
 
-/// Adds the observed events of a contract, in the order of the entries.
-fn add_observed<O: Observed>(
+/// The events of a contract in order, by the entries of its own.
+fn events_in_order(
     alloc: Global,
-    events: &mut Vec<Event>,
     terms: &Terms,
-    seen: &O,
-) -> Result<(), NoMemory>
-    ensures { IfOk result (λ _. events.new.items ≡ events.old.items ++ events_observed terms.now (O.entries seen.now)) }
+    plan: &Plan,
+    own: &[Obs],
+) -> Result<Vec<Event>, NoMemory>
+    requires { IsBuilt terms.now.kind }
+    ensures { IfOk result (λ events. (entries : List Obs) → own.now ≡ observed_events entries (observed_as terms.now.common) →
+        events.items ≡ in_order (events_scheduled terms.now.common terms.now.kind plan.now entries ++ events_observed terms.now entries)) }
 {
-    let entries = seen.events_of(alloc, observed_as(&terms.common))?;
-    add_all(events, &terms.kind, &entries)
+    let mut events = scheduled_events(alloc, terms, plan, own)?;
+    add_all(&mut events, &terms.kind, own)?;
+    put_in_order(&mut events)?;
+    Ok(events)
+}
+
+/// The scheduled events of a contract: those of its plan, and of an option with the day of its exercise.
+fn scheduled_events(
+    alloc: Global,
+    terms: &Terms,
+    plan: &Plan,
+    own: &[Obs],
+) -> Result<Vec<Event>, NoMemory>
+    requires { IsBuilt terms.now.kind }
+    ensures { IfOk result (λ events. (entries : List Obs) → own.now ≡ observed_events entries (observed_as terms.now.common) →
+        events.items ≡ events_scheduled terms.now.common terms.now.kind plan.now entries) }
+{
+    match &terms.kind {
+        Kind::OPTNS(optns) => exercised_events(alloc, &terms.common, optns, own),
+        _ => Ok(Vec::from_slice(alloc, &plan.events)?),
+    }
+}
+
+/// Events, with a settlement only where there is an exercise.
+fn with_exercise(kind: &Kind, events: Vec<Event>) -> Vec<Event>
+    ensures { result.items ≡ with_exercise kind.now events.items }
+{
+    match kind {
+        Kind::OPTNS(_) | Kind::FUTUR(_) => settled_events(events),
+        _ => events,
+    }
 }
 
 /// Adds the events of a contract's entries, each with the entry's place among them.

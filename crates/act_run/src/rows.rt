@@ -77,7 +77,7 @@ fn next_row<O: Observed, L: Ledger>(
         Ok((payoff, next)) => Ok(Row {
             day: event.day,
             kind: event.kind,
-            currency: currency_of(terms),
+            currency: currency_of(terms, event),
             payoff,
             state: next,
         }),

@@ -1,16 +1,11 @@
 -- The names of currencies are names, and so is the code of the rate between two of them.
-use Rattle.std.proofs.Common.{◌≡◌, ℕ, ◌+◌, ◌≤◌, ◌&&◌, Bool, true, false, if◌then◌else◌, List, ◌++◌, length, codes, Option, Some, None, Result, Ok, Err, refl, sym, arith}
+use Rattle.std.proofs.Common.{◌≡◌, ℕ, ◌+◌, ◌≤◌, ◌&&◌, Bool, true, false, List, ◌++◌, length, codes, refl, arith}
 use Rattle.std.specs.List.{list_all}
-use Rattle.std.specs.Option.{ok_or}
 use Rattle.std.proofs.lemmas.Bool.{le-leb, leb-true}
 use Rattle.std.proofs.lemmas.List.{length-append}
 use Rattle.std.proofs.lemmas.List.Folds.{list_all-append}
-use Rattle.act_json.specs.Fields.{meaning_of, name_of}
-use Rattle.act_json.specs.Results.{result_map}
-use Rattle.act_json.specs.declared.fault.JsonFault.{JsonFault}
-use Rattle.act_json.specs.declared.fault.JsonFault.TheVariants.{BadName}
 use Rattle.act_model.specs.Name.{has_form, is_currency, is_graphic, is_name}
-use Rattle.act_terms.specs.Names.{currency_named, pair_name}
+use Rattle.act_terms.specs.Names.{pair_name}
 
 -- what the form of a name says
 record HasForm (most : ℕ) (text : List ℕ) : Type 0 where
@@ -49,15 +44,3 @@ pair_is_name currency other is_one is_other =
     let all : list_all is_graphic (pair_name currency other) ≡ true =
     rw (list_all-append is_graphic (currency ++ codes "/") other, list_all-append is_graphic currency (codes "/"), one.graphic, two.graphic) refl in
     test_from_HasForm 64 (pair_name currency other) (record { least = omega arith; within = omega arith; graphic = all })
-
--- what is no name is no currency
-no_currency : (text : List ℕ) (fault : JsonFault) (named currency : Bool) → (currency ≡ true → named ≡ true)
-    → Err fault ≡ result_map Some (ok_or (if named then Some text else None) BadName) → result_map Some (ok_or (if currency then Some text else None) BadName) ≡ Err fault
-no_currency text fault true currency is e = absurd (cc)
-no_currency text fault false true is e = absurd (cc (is refl))
-no_currency text fault false false is e = sym e
-
-pub fault_of_currency : (field : Result (Option (List ℕ)) JsonFault) (fault : JsonFault) → Err fault ≡ meaning_of name_of BadName field → meaning_of currency_named BadName field ≡ Err fault
-fault_of_currency (Ok None) fault e = absurd (cc)
-fault_of_currency (Ok (Some text)) fault e = no_currency text fault (is_name text) (is_currency text) (currency_is_name text) e
-fault_of_currency (Err other) fault e = sym e

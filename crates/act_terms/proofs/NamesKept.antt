@@ -1,21 +1,29 @@
 -- The terms of a contract name no contracts: whatever is read, the names of contracts stay.
-use Rattle.std.proofs.Common.{◌≡◌, ℕ, ℤ, ◌||◌, Bool, true, false, if◌then◌else◌, List, codes, is_some, unwrap_or, Option, Some, None, Result, Ok, Err, IfOk, OnOk, refl, ◌∙◌}
+use Rattle.std.proofs.Common.{◌≡◌, ℕ, ℤ, ◌||◌, Bool, true, false, if◌then◌else◌, List, [], ◌∷◌, codes, is_some, unwrap_or, Option, Some, None, Result, Ok, Err, IfOk, OnOk, refl, ◌∙◌}
 use Rattle.std.proofs.lemmas.Result.{IfOk-at_ok}
 use Rattle.std.specs.Str.{bytes_eq}
 use Rattle.act_model.specs.Names.{NameLists}
 use Rattle.act_model.specs.declared.choice.ContractType.{ContractType}
 use Rattle.act_model.specs.declared.choice.ContractType.TheVariants as type
+use Rattle.act_model.specs.declared.choice.DeliverySettlement.{DeliverySettlement}
+use Rattle.act_model.specs.declared.choice.DeliverySettlement.TheVariants as delivery
 use Rattle.act_profile.specs.Outcomes.{then_ok}
 use Rattle.act_json.specs.Fields.{decimal_field, word_field}
-use Rattle.act_terms.specs.Choices.{scaling_effect_named}
+use Rattle.act_terms.specs.Choices.{delivery_named, reference_role_named, reference_type_named, scaling_effect_named}
 use Rattle.act_terms.specs.Common.{business_days_of, common_of, position_of, trades_of}
-use Rattle.act_terms.specs.Contract.{NamedTerms, ann_terms_of, contract_type, lam_terms_of, nam_terms_of, named_terms_of, pam_terms_of, stk_terms_of, terms_of}
+use Rattle.act_terms.specs.Contract.{NamedTerms, ann_terms_of, contract_type, futur_terms_of, fxout_terms_of, lam_terms_of, nam_terms_of, named_terms_of, optns_terms_of, pam_terms_of, stk_terms_of, terms_of}
+use Rattle.act_terms.specs.Exchange.{currency2_of, fxout_of, pair_of, rate_name}
+use Rattle.act_terms.specs.Exercise.{futur_of, optns_of}
 use Rattle.act_terms.specs.Fields.{choice_field, day_after, needed, needed_day, needed_where, not_negative, optional, optional_cycle, optional_day, optional_decimal, positive}
 use Rattle.act_terms.specs.Loan.{fee_of, interest_dates_of, interest_of, loan_of, no_effect, pam_of, penalty_of, rate_limits_of, rate_reset_of, reset_code_for, scales, scaling_of}
-use Rattle.act_terms.specs.Names.{code_where, contract_id, currencies_of, currency_field, numbered, numbered_currencies, pair_name}
+use Rattle.act_terms.specs.Names.{code_where, contract_id, currencies_of, currency_field, numbered, numbered_currencies, pair_name, settlement_of}
 use Rattle.act_terms.specs.Redemption.{ann_of, calculation_base_of, lam_of, lam_payment_of, nam_of, redemption_dates_of}
+use Rattle.act_terms.specs.Structure.{choice_or_refusal, contract_inside, contract_named, elements_of, has_structure, market_named, market_text, name_or_refusal, reference_of, reference_within, references_from, references_of, referred_of, structure_of, with_names, without_contracts}
 use Rattle.act_terms.specs.declared.fault.TermsFault.{TermsFault}
-use Rattle.serde_json.specs.Data.{Data}
+use Rattle.act_terms.specs.declared.reference.ReferenceType.{ReferenceType}
+use Rattle.act_terms.specs.declared.reference.ReferenceType.TheVariants.{CNT, CID, MOC}
+use Rattle.act_terms.specs.declared.reference.Referred.{Referred}
+use Rattle.serde_json.specs.Data.{Data, object}
 
 -- what is read comes with these names of contracts
 abbrev Keeps : {A : Type 0} → List (List ℕ) → Result (A × NameLists) TermsFault → Type 0
@@ -49,11 +57,11 @@ module _ (contracts : List (List ℕ)) (names : NameLists) (at : names.contracts
   unfolding code_where
   code_keeps wanted term = plain contracts _ (needed_where wanted term (word_field term contract)) (λ code. numbered_keeps code names ∙ at)
 
-  currencies_keep : Keeps contracts (currencies_of names contract)
+  currencies_keep : (type : ContractType) → Keeps contracts (currencies_of type names contract)
   unfolding currencies_of
-  currencies_keep =
+  currencies_keep type =
       plain contracts _ (needed (codes "currency") (currency_field (codes "currency") contract)) (λ currency.
-      plain contracts _ (optional (codes "settlementCurrency") (currency_field (codes "settlementCurrency") contract)) (λ settlement.
+      plain contracts _ (settlement_of type contract) (λ settlement.
       both_keep currency settlement names ∙ at))
 
   reset_keeps : Keeps contracts (rate_reset_of names contract)
@@ -77,11 +85,11 @@ module _ (contracts : List (List ℕ)) (names : NameLists) (at : names.contracts
       plain contracts _ (needed_where (scales (unwrap_or given no_effect)) (codes "scalingIndexAtContractDealDate") (positive (codes "scalingIndexAtContractDealDate") contract)) (λ index. at)))))
 
 module _ (contracts : List (List ℕ)) (names : NameLists) (at : names.contracts ≡ contracts) (contract : Data) where
-  common_keeps : (number : ℕ) → Keeps contracts (common_of number names contract)
+  common_keeps : (type : ContractType) (number : ℕ) → Keeps contracts (common_of type number names contract)
   unfolding common_of
-  common_keeps number =
+  common_keeps type number =
       plain contracts _ (position_of contract) (λ position.
-      naming contracts _ (currencies_of names contract) (currencies_keep contracts names at contract) (λ money at.
+      naming contracts _ (currencies_of type names contract) (currencies_keep contracts names at contract type) (λ money at.
       plain contracts _ (business_days_of contract) (λ days.
       naming contracts _ (code_where false (codes "marketObjectCode") money.1 contract) (code_keeps contracts money.1 at contract _ _) (λ market at.
       plain contracts _ (trades_of contract) (λ trades. at)))))
@@ -132,34 +140,120 @@ module _ (contracts : List (List ℕ)) (names : NameLists) (at : names.contracts
       plain contracts _ (optional_decimal (codes "nextPrincipalRedemptionPayment") contract) (λ payment.
       plain contracts _ (calculation_base_of contract) (λ base. at))))
 
+module _ (contracts : List (List ℕ)) (names : NameLists) (at : names.contracts ≡ contracts) (contract : Data) where
+  currency2_keeps : Keeps contracts (currency2_of names contract)
+  unfolding currency2_of
+  currency2_keeps =
+      plain contracts _ (needed (codes "currency2") (currency_field (codes "currency2") contract)) (λ currency2. at)
+
+  pair_keeps : (delivery : DeliverySettlement) → Keeps contracts (pair_of delivery names contract)
+  unfolding pair_of
+  pair_keeps delivery.D = at
+  pair_keeps delivery.S = plain contracts _ (rate_name contract) (λ pair. at)
+
+module _ (contracts : List (List ℕ)) (names : NameLists) (at : names.contracts ≡ contracts) (contract : Data) where
+  fxout_keeps : Keeps contracts (fxout_of names contract)
+  unfolding fxout_of
+  fxout_keeps =
+      plain contracts _ (needed_day (codes "maturityDate") contract) (λ maturity.
+      plain contracts _ (needed (codes "notionalPrincipal") (not_negative (codes "notionalPrincipal") contract)) (λ notional.
+      naming contracts _ (currency2_of names contract) (currency2_keeps contracts names at contract) (λ currency2 at.
+      plain contracts _ (needed (codes "notionalPrincipal2") (not_negative (codes "notionalPrincipal2") contract)) (λ notional2.
+      plain contracts _ (optional (codes "deliverySettlement") (choice_field delivery_named (codes "deliverySettlement") contract)) (λ given.
+      naming contracts _ (pair_of (unwrap_or given delivery.D) currency2.1 contract) (pair_keeps contracts currency2.1 at contract _) (λ pair at. at))))))
+
+module _ (contracts : List (List ℕ)) (element : Data) where
+  inside_keeps : (names : NameLists) → names.contracts ≡ contracts → (read : Result Referred TermsFault) → Keeps contracts (with_names names read)
+  inside_keeps names at (Ok referred) = at
+  inside_keeps names at (Err fault) = tt
+
+  referred_keeps : (reference_type : ReferenceType) (names : NameLists) → names.contracts ≡ contracts → Keeps contracts (referred_of reference_type names element)
+  unfolding referred_of market_named
+  referred_keeps CNT names at = inside_keeps names at (contract_inside element)
+  referred_keeps CID names at = inside_keeps names at (contract_named element)
+  referred_keeps MOC names at = plain contracts _ (name_or_refusal (market_text element)) (λ code. at)
+
+  within_keeps : (names : NameLists) → names.contracts ≡ contracts → Keeps contracts (reference_within names element)
+  unfolding reference_within
+  within_keeps names at =
+      plain contracts _ (choice_or_refusal (choice_field reference_type_named (codes "referenceType") element)) (λ reference_type.
+      plain contracts _ (choice_or_refusal (choice_field reference_role_named (codes "referenceRole") element)) (λ role.
+      naming contracts _ (referred_of reference_type names element) (referred_keeps reference_type names at) (λ referred at. at)))
+
+reference_keeps : (contracts : List (List ℕ)) (element : Data) (names : NameLists) → names.contracts ≡ contracts → Keeps contracts (reference_of names element)
+unfolding reference_of
+reference_keeps contracts (object members) names at = within_keeps contracts (object members) names at
+reference_keeps contracts other names at = tt
+
+references_keep : (contracts : List (List ℕ)) (elements : List Data) (names : NameLists) → names.contracts ≡ contracts → Keeps contracts (references_from names elements)
+unfolding references_from
+references_keep contracts [] names at = at
+references_keep contracts (element ∷ elements) names at =
+    naming contracts _ (reference_of names element) (reference_keeps contracts element names at) (λ first at.
+    naming contracts _ (references_from first.1 elements) (references_keep contracts elements first.1 at) (λ rest at. at))
+
+module _ (contracts : List (List ℕ)) (names : NameLists) (at : names.contracts ≡ contracts) (contract : Data) where
+  structure_keeps : Keeps contracts (structure_of names contract)
+  unfolding structure_of
+  structure_keeps =
+      plain contracts _ (elements_of contract) (λ elements.
+      naming contracts _ (references_from names elements) (references_keep contracts elements names at) (λ read at.
+      plain contracts _ (without_contracts read.0) (λ references. at)))
+
+  structure_where : (has : Bool) → Keeps contracts (if has then structure_of names contract else Ok ([], names))
+  structure_where true = structure_keeps
+  structure_where false = at
+
+  type_keeps : (type : ContractType) → Keeps contracts (references_of type names contract)
+  unfolding references_of
+  type_keeps type = structure_where (has_structure type)
+
 pam_terms_keep : (number : ℕ) (names : NameLists) (contract : Data) → Keeps names.contracts (pam_terms_of number names contract)
 unfolding pam_terms_of
 pam_terms_keep number names contract =
-    naming names.contracts _ (common_of number names contract) (common_keeps names.contracts names refl contract number) (λ common at.
+    naming names.contracts _ (common_of type.PAM number names contract) (common_keeps names.contracts names refl contract type.PAM number) (λ common at.
     naming names.contracts _ (pam_of common.1 contract) (pam_keeps names.contracts common.1 at contract) (λ pam at. at))
 
 lam_terms_keep : (number : ℕ) (names : NameLists) (contract : Data) → Keeps names.contracts (lam_terms_of number names contract)
 unfolding lam_terms_of
 lam_terms_keep number names contract =
-    naming names.contracts _ (common_of number names contract) (common_keeps names.contracts names refl contract number) (λ common at.
+    naming names.contracts _ (common_of type.LAM number names contract) (common_keeps names.contracts names refl contract type.LAM number) (λ common at.
     naming names.contracts _ (lam_of common.1 contract) (lam_keeps names.contracts common.1 at contract) (λ lam at. at))
 
 nam_terms_keep : (number : ℕ) (names : NameLists) (contract : Data) → Keeps names.contracts (nam_terms_of number names contract)
 unfolding nam_terms_of
 nam_terms_keep number names contract =
-    naming names.contracts _ (common_of number names contract) (common_keeps names.contracts names refl contract number) (λ common at.
+    naming names.contracts _ (common_of type.NAM number names contract) (common_keeps names.contracts names refl contract type.NAM number) (λ common at.
     naming names.contracts _ (nam_of common.1 contract) (nam_keeps names.contracts common.1 at contract) (λ nam at. at))
 
 ann_terms_keep : (number : ℕ) (names : NameLists) (contract : Data) → Keeps names.contracts (ann_terms_of number names contract)
 unfolding ann_terms_of
 ann_terms_keep number names contract =
-    naming names.contracts _ (common_of number names contract) (common_keeps names.contracts names refl contract number) (λ common at.
+    naming names.contracts _ (common_of type.ANN number names contract) (common_keeps names.contracts names refl contract type.ANN number) (λ common at.
     naming names.contracts _ (ann_of common.1 contract) (ann_keeps names.contracts common.1 at contract) (λ ann at. at))
 
 stk_terms_keep : (number : ℕ) (names : NameLists) (contract : Data) → Keeps names.contracts (stk_terms_of number names contract)
 unfolding stk_terms_of
 stk_terms_keep number names contract =
-    naming names.contracts _ (common_of number names contract) (common_keeps names.contracts names refl contract number) (λ common at. at)
+    naming names.contracts _ (common_of type.STK number names contract) (common_keeps names.contracts names refl contract type.STK number) (λ common at. at)
+
+fxout_terms_keep : (number : ℕ) (names : NameLists) (contract : Data) → Keeps names.contracts (fxout_terms_of number names contract)
+unfolding fxout_terms_of
+fxout_terms_keep number names contract =
+    naming names.contracts _ (common_of type.FXOUT number names contract) (common_keeps names.contracts names refl contract type.FXOUT number) (λ common at.
+    naming names.contracts _ (fxout_of common.1 contract) (fxout_keeps names.contracts common.1 at contract) (λ fxout at. at))
+
+optns_terms_keep : (number : ℕ) (names : NameLists) (contract : Data) → Keeps names.contracts (optns_terms_of number names contract)
+unfolding optns_terms_of
+optns_terms_keep number names contract =
+    naming names.contracts _ (common_of type.OPTNS number names contract) (common_keeps names.contracts names refl contract type.OPTNS number) (λ common at.
+    plain names.contracts _ (optns_of contract) (λ optns. at))
+
+futur_terms_keep : (number : ℕ) (names : NameLists) (contract : Data) → Keeps names.contracts (futur_terms_of number names contract)
+unfolding futur_terms_of
+futur_terms_keep number names contract =
+    naming names.contracts _ (common_of type.FUTUR number names contract) (common_keeps names.contracts names refl contract type.FUTUR number) (λ common at.
+    plain names.contracts _ (futur_of contract) (λ futur. at))
 
 terms_keep : (type : ContractType) (number : ℕ) (names : NameLists) (contract : Data) → Keeps names.contracts (terms_of type number names contract)
 unfolding terms_of
@@ -168,6 +262,9 @@ terms_keep type.LAM number names contract = lam_terms_keep number names contract
 terms_keep type.NAM number names contract = nam_terms_keep number names contract
 terms_keep type.ANN number names contract = ann_terms_keep number names contract
 terms_keep type.STK number names contract = stk_terms_keep number names contract
+terms_keep type.FXOUT number names contract = fxout_terms_keep number names contract
+terms_keep type.OPTNS number names contract = optns_terms_keep number names contract
+terms_keep type.FUTUR number names contract = futur_terms_keep number names contract
 terms_keep other number names contract = tt
 
 named_keep : (number : ℕ) (names : NameLists) (contract : Data) → Keeps names.contracts (named_terms_of number names contract)
@@ -175,7 +272,8 @@ unfolding named_terms_of
 named_keep number names contract =
     plain names.contracts _ (contract_id contract) (λ id.
     plain names.contracts _ (contract_type contract) (λ type.
-    naming names.contracts _ (terms_of type number names contract) (terms_keep type number names contract) (λ terms at. at)))
+    naming names.contracts _ (terms_of type number names contract) (terms_keep type number names contract) (λ terms at.
+    naming names.contracts _ (references_of type terms.1 contract) (type_keeps names.contracts terms.1 at contract type) (λ references at. at))))
 
 -- a contract that is read leaves the names of contracts as they were
 pub contracts_kept : (number : ℕ) (names after : NameLists) (contract : Data) (result : Result NamedTerms TermsFault) → IfOk result (λ named. named_terms_of number names contract ≡ Ok (named, after)) → OnOk result (after.contracts ≡ names.contracts)

@@ -7,7 +7,7 @@ use Rattle.act_model.specs.declared.choice.ContractType.{ContractType}
 use Rattle.act_model.specs.declared.choice.ContractType.TheVariants as type
 use Rattle.serde_json.specs.Data.{Data, object, Members}
 use Rattle.serde_json.specs.Find.{as_object}
-use Rattle.act_terms.specs.Used.{common_terms, is_among, is_term_of, loan_terms, member_names, own_terms, redemption_terms, unused_names}
+use Rattle.act_terms.specs.Used.{common_terms, is_among, is_term_of, loan_terms, member_names, own_terms, redemption_terms, settlement_terms, shared_terms, unused_names}
 
 pub list_any-map : {X Y : Type 0} (p : Y → Bool) (f : X → Y) (xs : List X) → list_any (λ x. p (f x)) xs ≡ list_any p (map f xs)
 list_any-map p f [] = refl
@@ -17,10 +17,14 @@ list_any-map p f (x ∷ xs) = ap (λ b. p (f x) || b) (list_any-map p f xs)
 among_both : (first second : List (List ℕ)) (name : List ℕ) → is_among (first ++ second) name ≡ (is_among first name || is_among second name)
 among_both first second name = list_any-append (λ n. bytes_eq n name) first second
 
--- a term of a type is one that every contract has, or one of its own
-pub term_is : (type : ContractType) (name : List ℕ) → is_term_of type name ≡ (is_among common_terms name || is_among (own_terms type) name)
+-- a term of a type is one that it shares with others, or one of its own
+pub term_is : (type : ContractType) (name : List ℕ) → is_term_of type name ≡ (is_among (shared_terms type) name || is_among (own_terms type) name)
 unfolding is_term_of
-term_is type name = among_both common_terms (own_terms type) name
+term_is type name = among_both (shared_terms type) (own_terms type) name
+
+-- a shared term is one that every contract has, or the currency of settlement
+pub shared_is : (type : ContractType) (name : List ℕ) → is_among (shared_terms type) name ≡ (is_among common_terms name || is_among (settlement_terms type) name)
+shared_is type name = among_both common_terms (settlement_terms type) name
 
 -- the terms of a loan whose principal is redeemed are those that all loans have, and those of redemption
 abbrev Redeems : ContractType → Type 0

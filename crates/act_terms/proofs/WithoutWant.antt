@@ -3,7 +3,7 @@ use Rattle.std.proofs.Common.{◌≡◌, ◌≢◌, ℕ, List, Option, Some, Non
 use Rattle.act_json.specs.Results.{result_map}
 use Rattle.act_json.specs.declared.fault.JsonFault.{JsonFault}
 use Rattle.act_json.specs.declared.fault.JsonFault.TheVariants as json
-use Rattle.act_terms.specs.Fault.{fault_at}
+use Rattle.act_terms.specs.Fault.{fault_at, read_map}
 use Rattle.act_terms.specs.Fields.{needed, optional}
 use Rattle.act_terms.specs.declared.fault.TermsFault.{TermsFault}
 use Rattle.act_terms.specs.declared.fault.TermsFault.TheVariants.{NoMemory}
@@ -47,3 +47,9 @@ pub optional_fault : {A B : Type 0} (f : A → B) (term : List ℕ) (found : Res
 optional_fault f term (Ok given) said fault e read same = absurd (cc)
 optional_fault f term (Err other) said fault e read same =
     ap (optional term) (sym (same (λ want. read (let g : fault_at term other ≡ NoMemory = ap (fault_of_json term) want in cc)))) ∙ (cc)
+
+-- a field that may be left out, seen as its bytes
+pub optional_seen : {A B : Type 0} (f : A → B) (term : List ℕ) (found : Result (Option A) JsonFault) (said : Result (Option B) JsonFault)
+    → result_map (option_map f) found ≡ said → read_map (option_map f) (optional term found) ≡ optional term said
+optional_seen f term (Ok given) said same = ap (optional term) same
+optional_seen f term (Err fault) said same = ap (optional term) same

@@ -11,13 +11,23 @@ use Rattle.act_date.specs.declared.day_count.DayCount.{DayCount}
 use Rattle.act_date.specs.declared.day_count.DayCount.TheVariants as count
 use Rattle.act_model.specs.declared.choice.ContractRole.{ContractRole}
 use Rattle.act_model.specs.declared.choice.ContractRole.TheVariants as role
+use Rattle.act_model.specs.declared.choice.DeliverySettlement.{DeliverySettlement}
+use Rattle.act_model.specs.declared.choice.DeliverySettlement.TheVariants as delivery
+use Rattle.act_model.specs.declared.choice.ExerciseType.{ExerciseType}
+use Rattle.act_model.specs.declared.choice.ExerciseType.TheVariants as exercise
 use Rattle.act_model.specs.declared.choice.FeeBasis.{FeeBasis}
 use Rattle.act_model.specs.declared.choice.FeeBasis.TheVariants as basis
 use Rattle.act_model.specs.declared.choice.InterestCalculationBase.{InterestCalculationBase}
 use Rattle.act_model.specs.declared.choice.InterestCalculationBase.TheVariants.{NT, NTIED, NTL}
+use Rattle.act_model.specs.declared.choice.OptionType.{OptionType}
+use Rattle.act_model.specs.declared.choice.OptionType.TheVariants as option
 use Rattle.act_model.specs.declared.choice.PenaltyType.{PenaltyType}
 use Rattle.act_model.specs.declared.choice.PenaltyType.TheVariants as penalty
 use Rattle.act_model.specs.declared.choice.ScalingEffect.{ScalingEffect}
+use Rattle.act_terms.specs.declared.reference.ReferenceRole.{ReferenceRole}
+use Rattle.act_terms.specs.declared.reference.ReferenceRole.TheVariants.{UDL, FIL, SEL, COVE, COVI}
+use Rattle.act_terms.specs.declared.reference.ReferenceType.{ReferenceType}
+use Rattle.act_terms.specs.declared.reference.ReferenceType.TheVariants.{CNT, CID, MOC}
 
 -- the choice of a text, by the first pair that has it
 abbrev pub among : {A : Type 0} → List (List ℕ × A) → List ℕ → Option A
@@ -57,6 +67,26 @@ penalty_type_named text = among ((codes "O", penalty.O) ∷ (codes "A", penalty.
 -- interestCalculationBase
 unfoldable pub calculation_base_named : List ℕ → Option InterestCalculationBase
 calculation_base_named text = among ((codes "NT", NT) ∷ (codes "NTIED", NTIED) ∷ (codes "NTL", NTL) ∷ []) text
+
+-- deliverySettlement
+unfoldable pub delivery_named : List ℕ → Option DeliverySettlement
+delivery_named text = among ((codes "D", delivery.D) ∷ (codes "S", delivery.S) ∷ []) text
+
+-- optionType
+unfoldable pub option_type_named : List ℕ → Option OptionType
+option_type_named text = among ((codes "C", option.C) ∷ (codes "P", option.P) ∷ (codes "CP", option.CP) ∷ []) text
+
+-- optionExerciseType
+unfoldable pub exercise_type_named : List ℕ → Option ExerciseType
+exercise_type_named text = among ((codes "E", exercise.E) ∷ (codes "A", exercise.A) ∷ (codes "B", exercise.B) ∷ []) text
+
+-- referenceType
+unfoldable pub reference_type_named : List ℕ → Option ReferenceType
+reference_type_named text = among ((codes "CNT", CNT) ∷ (codes "CID", CID) ∷ (codes "MOC", MOC) ∷ []) text
+
+-- referenceRole
+unfoldable pub reference_role_named : List ℕ → Option ReferenceRole
+reference_role_named text = among ((codes "UDL", UDL) ∷ (codes "FIL", FIL) ∷ (codes "SEL", SEL) ∷ (codes "COVE", COVE) ∷ (codes "COVI", COVI) ∷ []) text
 
 -- scalingEffect: three letters, the first I, O or 0, the second N, O or 0, the third O or 0
 abbrev pub is_none : ℕ → Bool

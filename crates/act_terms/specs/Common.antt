@@ -4,6 +4,7 @@ use Rattle.act_date.specs.declared.calendar.Calendar.TheVariants.{Nc}
 use Rattle.act_date.specs.declared.calendar.Convention.TheVariants.{Nos}
 use Rattle.act_date.specs.declared.cycle.MonthRule.TheVariants.{Sd}
 use Rattle.act_model.specs.Names.{NameLists}
+use Rattle.act_model.specs.declared.choice.ContractType.{ContractType}
 use Rattle.act_model.specs.declared.terms.Common.{Common}
 use Rattle.act_terms.specs.Choices.{calendar_named, convention_named, month_rule_named, role_named}
 use Rattle.act_terms.specs.Fault.{◌>>=◌}
@@ -61,11 +62,11 @@ common_with number position money days market trades =
       price_at_termination_date = trades.price_at_termination_date;
     }
 
--- the common terms of the contract of that number, and the names with those that they give
-unfoldable pub common_of : ℕ → NameLists → Data → Result (Common × NameLists) TermsFault
-common_of number names contract = do
+-- the common terms of the contract of that type and number, and the names with those that they give
+unfoldable pub common_of : ContractType → ℕ → NameLists → Data → Result (Common × NameLists) TermsFault
+common_of type number names contract = do
   position ← position_of contract
-  money ← currencies_of names contract
+  money ← currencies_of type names contract
   days ← business_days_of contract
   market ← code_where false (codes "marketObjectCode") money.1 contract
   trades ← trades_of contract

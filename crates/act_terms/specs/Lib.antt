@@ -1,10 +1,13 @@
 pub mod Choices
 pub mod Common
 pub mod Contract
+pub mod Exchange
+pub mod Exercise
 pub mod Fault
 pub mod Fields
 pub mod Loan
 pub mod Names
 pub mod Redemption
 pub mod Refusal
+pub mod Structure
 pub mod Used

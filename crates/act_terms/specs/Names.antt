@@ -1,11 +1,13 @@
 -- The names that terms give, and their numbers. This profile's own.
-use Rattle.std.specs.Prelude.{ℕ, ◌&&◌, not, if◌then◌else◌, Bool, List, ◌++◌, codes, Option, Some, None, Result, Ok}
+use Rattle.std.specs.Prelude.{ℕ, ◌&&◌, not, if◌then◌else◌, Bool, true, false, List, ◌++◌, codes, Option, Some, None, Result, Ok}
 use Rattle.std.specs.Str.{bytes_eq}
 use Rattle.act_json.specs.Fields.{field_of, meaning_of, word_field}
 use Rattle.act_json.specs.declared.fault.JsonFault.{JsonFault}
 use Rattle.act_json.specs.declared.fault.JsonFault.TheVariants.{BadName}
 use Rattle.act_model.specs.Name.{is_currency, is_name}
 use Rattle.act_model.specs.Names.{NameLists, number_of, with_name}
+use Rattle.act_model.specs.declared.choice.ContractType.{ContractType}
+use Rattle.act_model.specs.declared.choice.ContractType.TheVariants as type
 use Rattle.act_terms.specs.Fault.{◌>>=◌}
 use Rattle.act_terms.specs.Fields.{needed, needed_where, optional}
 use Rattle.act_terms.specs.declared.currencies.Currencies.{Currencies}
@@ -68,9 +70,19 @@ numbered_currencies currency (Some settlement) names =
     let factor = with_factor currency settlement second.1 in
     (record { currency = first.0; settlement_currency = Some second.0; factor = factor.0 }, factor.1)
 
--- currency and settlementCurrency
-unfoldable pub currencies_of : NameLists → Data → Result (Currencies × NameLists) TermsFault
-currencies_of names contract = do
+-- contracts of a type may be settled in another currency; an outright is not, and doesn't use settlementCurrency
+abbrev pub may_settle : ContractType → Bool
+may_settle type.FXOUT = false
+may_settle other = true
+
+-- settlementCurrency, of a type that uses it
+unfoldable pub settlement_of : ContractType → Data → Result (Option (List ℕ)) TermsFault
+settlement_of type contract =
+    if may_settle type then optional (codes "settlementCurrency") (currency_field (codes "settlementCurrency") contract) else Ok None
+
+-- currency and settlementCurrency of a contract of that type
+unfoldable pub currencies_of : ContractType → NameLists → Data → Result (Currencies × NameLists) TermsFault
+currencies_of type names contract = do
   currency ← needed (codes "currency") (currency_field (codes "currency") contract)
-  settlement ← optional (codes "settlementCurrency") (currency_field (codes "settlementCurrency") contract)
+  settlement ← settlement_of type contract
   Ok (numbered_currencies currency settlement names)

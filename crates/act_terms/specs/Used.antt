@@ -1,15 +1,16 @@
 -- Which names of a contract's object are terms of its type. ACTUS data dictionary.
-use Rattle.std.specs.Prelude.{ℕ, not, Bool, List, [], ◌∷◌, ◌++◌, codes}
+use Rattle.std.specs.Prelude.{ℕ, not, if◌then◌else◌, Bool, List, [], ◌∷◌, ◌++◌, codes}
 use Rattle.std.specs.List.{filter, list_any}
 use Rattle.std.specs.Str.{bytes_eq}
 use Rattle.act_model.specs.declared.choice.ContractType.{ContractType}
 use Rattle.act_model.specs.declared.choice.ContractType.TheVariants as type
+use Rattle.act_terms.specs.Names.{may_settle}
 use Rattle.serde_json.specs.Data.{Data, object, Members, no_members, member}
 
 -- the terms that every contract has, in the order in which they are read
 abbrev pub common_terms : List (List ℕ)
 common_terms =
-    codes "contractID" ∷ codes "contractType" ∷ codes "contractRole" ∷ codes "statusDate" ∷ codes "currency" ∷ codes "settlementCurrency" ∷ codes "calendar" ∷ codes "businessDayConvention" ∷ codes "endOfMonthConvention"
+    codes "contractID" ∷ codes "contractType" ∷ codes "contractRole" ∷ codes "statusDate" ∷ codes "currency" ∷ codes "calendar" ∷ codes "businessDayConvention" ∷ codes "endOfMonthConvention"
     ∷ codes "marketObjectCode" ∷ codes "purchaseDate" ∷ codes "priceAtPurchaseDate" ∷ codes "terminationDate" ∷ codes "priceAtTerminationDate" ∷ []
 
 -- the terms of every loan
@@ -27,6 +28,19 @@ redemption_terms =
     codes "cycleAnchorDateOfPrincipalRedemption" ∷ codes "cycleOfPrincipalRedemption" ∷ codes "nextPrincipalRedemptionPayment" ∷ codes "interestCalculationBase" ∷ codes "interestCalculationBaseAmount"
     ∷ codes "cycleAnchorDateOfInterestCalculationBase" ∷ codes "cycleOfInterestCalculationBase" ∷ []
 
+-- the terms of an outright
+abbrev pub outright_terms : List (List ℕ)
+outright_terms = codes "maturityDate" ∷ codes "notionalPrincipal" ∷ codes "currency2" ∷ codes "notionalPrincipal2" ∷ codes "deliverySettlement" ∷ []
+
+-- the terms of an option
+abbrev pub option_terms : List (List ℕ)
+option_terms =
+    codes "maturityDate" ∷ codes "optionType" ∷ codes "optionStrike1" ∷ codes "optionStrike2" ∷ codes "optionExerciseType" ∷ codes "settlementPeriod" ∷ codes "contractStructure" ∷ []
+
+-- the terms of a future
+abbrev pub future_terms : List (List ℕ)
+future_terms = codes "maturityDate" ∷ codes "futuresPrice" ∷ codes "settlementPeriod" ∷ codes "contractStructure" ∷ []
+
 -- a name is one of some names
 abbrev pub is_among : List (List ℕ) → List ℕ → Bool
 is_among names name = list_any (λ n. bytes_eq n name) names
@@ -37,11 +51,22 @@ own_terms type.PAM = loan_terms
 own_terms type.LAM = loan_terms ++ redemption_terms
 own_terms type.NAM = loan_terms ++ redemption_terms
 own_terms type.ANN = loan_terms ++ redemption_terms
+own_terms type.FXOUT = outright_terms
+own_terms type.OPTNS = option_terms
+own_terms type.FUTUR = future_terms
 own_terms other = []
+
+-- settlementCurrency, which is read behind currency, of a type that uses it
+abbrev pub settlement_terms : ContractType → List (List ℕ)
+settlement_terms type = if may_settle type then codes "settlementCurrency" ∷ [] else []
+
+-- the terms that a type shares with others
+abbrev pub shared_terms : ContractType → List (List ℕ)
+shared_terms type = common_terms ++ settlement_terms type
 
 -- the terms of a type
 abbrev pub terms_named : ContractType → List (List ℕ)
-terms_named type = common_terms ++ own_terms type
+terms_named type = shared_terms type ++ own_terms type
 
 -- a name is a term of that type
 unfoldable pub is_term_of : ContractType → List ℕ → Bool

@@ -3,12 +3,16 @@ ghost use Rattle.std.specs.Prelude.{◌≡◌, ℕ, ◌||◌, ◌==◌, List, Op
 ghost use Rattle.std.specs.Option.{ok_or};
 ghost use Rattle.serde_json.specs.View.{view};
 ghost use Rattle.act_json.specs.Results.{result_map};
-ghost use Rattle.act_terms.specs.Choices.{among, calculation_base_named, calendar_named, convention_named, day_count_named, fee_basis_named, is_none, month_rule_named, penalty_type_named, role_named, scaling_effect_named};
+ghost use Rattle.act_terms.specs.Choices.{among, calculation_base_named, calendar_named, convention_named, day_count_named, delivery_named, exercise_type_named, fee_basis_named, is_none, month_rule_named, option_type_named, penalty_type_named, reference_role_named, reference_type_named, role_named, scaling_effect_named};
 ghost use Rattle.act_terms.specs.Fields.{choice_field};
 
+use crate::reference::{ReferenceRole, ReferenceType};
 use act_date::{Calendar, Convention, DayCount, MonthRule};
 use act_json::{JsonFault, text_in};
-use act_model::{ContractRole, FeeBasis, InterestCalculationBase, PenaltyType, ScalingEffect};
+use act_model::{
+    ContractRole, DeliverySettlement, ExerciseType, FeeBasis, InterestCalculationBase, OptionType,
+    PenaltyType, ScalingEffect,
+};
 use serde_json::Value;
 
 /// The roles of a contract's owner, by their names.
@@ -74,6 +78,42 @@ const CALCULATION_BASES: [(&str, InterestCalculationBase); 3] = [
     ("NT", InterestCalculationBase::NT),
     ("NTIED", InterestCalculationBase::NTIED),
     ("NTL", InterestCalculationBase::NTL),
+];
+
+/// What an outright delivers, by the names.
+const DELIVERIES: [(&str, DeliverySettlement); 2] = [
+    ("D", DeliverySettlement::D),
+    ("S", DeliverySettlement::S),
+];
+
+/// The kinds of options, by their names.
+const OPTION_TYPES: [(&str, OptionType); 3] = [
+    ("C", OptionType::C),
+    ("P", OptionType::P),
+    ("CP", OptionType::CP),
+];
+
+/// When options may be exercised, by the names.
+const EXERCISE_TYPES: [(&str, ExerciseType); 3] = [
+    ("E", ExerciseType::E),
+    ("A", ExerciseType::A),
+    ("B", ExerciseType::B),
+];
+
+/// What a reference may be to, by the names.
+const REFERENCE_TYPES: [(&str, ReferenceType); 3] = [
+    ("CNT", ReferenceType::CNT),
+    ("CID", ReferenceType::CID),
+    ("MOC", ReferenceType::MOC),
+];
+
+/// The roles of what is referred to, by their names.
+const REFERENCE_ROLES: [(&str, ReferenceRole); 5] = [
+    ("UDL", ReferenceRole::UDL),
+    ("FIL", ReferenceRole::FIL),
+    ("SEL", ReferenceRole::SEL),
+    ("COVE", ReferenceRole::COVE),
+    ("COVI", ReferenceRole::COVI),
 ];
 
 /// A choice among the texts that a term may have.
@@ -189,6 +229,51 @@ impl Choice for InterestCalculationBase {
     #[tactic(auto, unfolding(crate::specs::Choices::calculation_base_named))]
     fn named(text: &str) -> Option<InterestCalculationBase> {
         among(&CALCULATION_BASES, text)
+    }
+}
+
+impl Choice for DeliverySettlement {
+    ghost named = { delivery_named };
+
+    #[tactic(auto, unfolding(crate::specs::Choices::delivery_named))]
+    fn named(text: &str) -> Option<DeliverySettlement> {
+        among(&DELIVERIES, text)
+    }
+}
+
+impl Choice for OptionType {
+    ghost named = { option_type_named };
+
+    #[tactic(auto, unfolding(crate::specs::Choices::option_type_named))]
+    fn named(text: &str) -> Option<OptionType> {
+        among(&OPTION_TYPES, text)
+    }
+}
+
+impl Choice for ExerciseType {
+    ghost named = { exercise_type_named };
+
+    #[tactic(auto, unfolding(crate::specs::Choices::exercise_type_named))]
+    fn named(text: &str) -> Option<ExerciseType> {
+        among(&EXERCISE_TYPES, text)
+    }
+}
+
+impl Choice for ReferenceType {
+    ghost named = { reference_type_named };
+
+    #[tactic(auto, unfolding(crate::specs::Choices::reference_type_named))]
+    fn named(text: &str) -> Option<ReferenceType> {
+        among(&REFERENCE_TYPES, text)
+    }
+}
+
+impl Choice for ReferenceRole {
+    ghost named = { reference_role_named };
+
+    #[tactic(auto, unfolding(crate::specs::Choices::reference_role_named))]
+    fn named(text: &str) -> Option<ReferenceRole> {
+        among(&REFERENCE_ROLES, text)
     }
 }
 

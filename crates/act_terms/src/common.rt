@@ -8,7 +8,7 @@ use crate::currencies::{code_where, read_currencies};
 use crate::fault::TermsFault;
 use crate::fields::{needed, needed_day, optional, optional_day, optional_decimal};
 use act_date::{Calendar, Convention, Day, MonthRule};
-use act_model::{Common, ContractRole, Names};
+use act_model::{Common, ContractRole, ContractType, Names};
 use act_num::Fixed;
 use serde_json::Value;
 use std::alloc::Global;
@@ -37,20 +37,21 @@ struct Trades {
     price_at_termination_date: Fixed,
 }
 
-/// The common terms of the contract of that number.
+/// The common terms of the contract of that type and number.
 #[tactic(auto, unfolding(crate::specs::Common::common_of))]
 pub(crate) fn read_common(
     alloc: Global,
+    contract_type: ContractType,
     contract: &Value,
     number: u32,
     names: &mut Names,
 ) -> Result<Common, TermsFault>
-    ensures read { IfOk result (λ common. common_of number names.old (view contract.now) ≡ Ok (common, names.new)) }
+    ensures read { IfOk result (λ common. common_of contract_type number names.old (view contract.now) ≡ Ok (common, names.new)) }
     ensures refused { IfErr result (λ fault. fault ≢ TermsFault.NoMemory
-        → common_of number names.old (view contract.now) ≡ Err fault) }
+        → common_of contract_type number names.old (view contract.now) ≡ Err fault) }
 {
     let position = read_position(contract)?;
-    let money = read_currencies(alloc, contract, names)?;
+    let money = read_currencies(alloc, contract_type, contract, names)?;
     let days = read_business_days(contract)?;
     let market_object_code = code_where(alloc, false, "marketObjectCode", contract, names)?;
     let trades = read_trades(contract)?;

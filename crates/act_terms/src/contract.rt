@@ -4,27 +4,34 @@ ghost use Rattle.std.specs.Str.{bytes_eq};
 ghost use Rattle.serde_json.specs.View.{view};
 ghost use Rattle.act_profile.specs.Built.{IsBuilt};
 ghost use Rattle.act_model.specs.Name.{is_name};
-ghost use Rattle.act_terms.specs.Contract.{ann_terms_of, contract_of, contract_type, lam_terms_of, nam_terms_of, named_terms_of, pam_terms_of, stk_terms_of, terms_of};
+ghost use Rattle.act_terms.specs.Contract.{ann_terms_of, contract_of, contract_type, futur_terms_of, fxout_terms_of, lam_terms_of, nam_terms_of, named_terms_of, optns_terms_of, pam_terms_of, stk_terms_of, terms_of};
 
 use crate::common::read_common;
 use crate::currencies::contract_id;
+use crate::exchange::read_fxout;
+use crate::exercise::{read_futur, read_optns};
 use crate::fault::{TermCause, TermsFault, refused};
 use crate::fields::needed;
 use crate::loan::read_pam;
 use crate::redemption::{read_ann, read_lam, read_nam};
+use crate::reference::Reference;
+use crate::structure::read_references;
 use act_json::text_in;
 use act_model::{ContractType, Kind, Names, Stk, Terms};
 use serde_json::Value;
 use std::alloc::Global;
 use std::marker::Model;
 
-/// A contract's name and terms.
+/// A contract's name, its terms and what it refers to.
 #[derive(Drop)]
 pub struct NamedTerms {
     /// The name: 1 to 64 printable ASCII characters without space, and no star alone.
     pub id: String,
-    /// The terms. Days count from 1970-01-01, and decimals are in units of 10^-9.
+    /// The terms. Days count from 1970-01-01, and decimals are in units of 10^-9. What a term is bound to by the references, as
+    /// an option's underlying, is 0 in them.
     pub terms: Terms,
+    /// What the contract refers to, in the order of its structure.
+    pub references: Vec<Reference>,
 }
 
 impl Model for NamedTerms {
@@ -33,18 +40,20 @@ impl Model for NamedTerms {
 
     ghost Value = { NamedTerms };
 
-    ghost view = { λ c. record { id = string_bytes c.id; terms = c.terms } };
+    ghost view = { λ c. record { id = string_bytes c.id; terms = c.terms; references = c.references.items } };
 }
 
-/// The contract of that number, from its JSON object: its name and its terms, each by its name in the dictionary. Names
-/// that aren't terms of its kind are passed over; [`unused_names`] has them. The codes and currencies that the terms
-/// name have their numbers among `names`, behind those of the contracts before. The contract's own name isn't added.
+/// The contract of that number, from its JSON object: its name, its terms, each by its name in the dictionary, and what it
+/// refers to. Names that aren't terms of its kind are passed over; [`unused_names`] has them. The codes and currencies that
+/// the terms and the references name have their numbers among `names`, behind those of the contracts before. The contract's
+/// own name isn't added.
 ///
 /// Refused where a term is, with the first one in the order of this profile's tables: first the terms that every
 /// contract has, then those of its kind; that a penalty of lost interest needs the code of the reset rate is tried
-/// behind the terms that all loans have, and before those of redemption. A type that isn't built yet is refused where an
-/// unknown one is. NoMemory where memory runs out. Where it isn't read, codes and currencies may have been added all the
-/// same.
+/// behind the terms that all loans have, and before those of redemption, and the structure comes behind all other terms. A
+/// type that isn't built yet is refused where an unknown one is, and a reference to a contract, which isn't built yet
+/// either, behind the whole structure. NoMemory where memory runs out. Where it isn't read, codes and currencies may have
+/// been added all the same.
 #[tactic(auto, unfolding(crate::specs::Contract::contract_of))]
 pub fn read_contract(
     alloc: Global,
@@ -66,7 +75,7 @@ pub fn read_contract(
     read_named_terms(alloc, contract, number, names)
 }
 
-/// The name and the terms of an object.
+/// The name, the terms and the references of an object.
 #[tactic(auto, unfolding(crate::specs::Contract::named_terms_of))]
 fn read_named_terms(
     alloc: Global,
@@ -84,7 +93,12 @@ fn read_named_terms(
     let id = contract_id(alloc, contract)?;
     let contract_type = contract_type(contract)?;
     let terms = read_terms(alloc, contract_type, contract, number, names)?;
-    Ok(NamedTerms { id, terms })
+    let references = read_references(alloc, contract_type, contract, names)?;
+    Ok(NamedTerms {
+        id,
+        terms,
+        references,
+    })
 }
 
 /// The type of a contract.
@@ -119,6 +133,9 @@ fn read_terms(
         ContractType::NAM => read_nam_terms(alloc, contract, number, names),
         ContractType::ANN => read_ann_terms(alloc, contract, number, names),
         ContractType::STK => read_stk_terms(alloc, contract, number, names),
+        ContractType::FXOUT => read_fxout_terms(alloc, contract, number, names),
+        ContractType::OPTNS => read_optns_terms(alloc, contract, number, names),
+        ContractType::FUTUR => read_futur_terms(alloc, contract, number, names),
         _ => Err(refused(TermCause::NotBuilt, "contractType")),
     }
 }
@@ -136,7 +153,7 @@ fn read_pam_terms(
         → pam_terms_of number names.old (view contract.now) ≡ Err fault) }
     ensures built { IfOk result (λ terms. IsBuilt terms.kind) }
 {
-    let common = read_common(alloc, contract, number, names)?;
+    let common = read_common(alloc, ContractType::PAM, contract, number, names)?;
     let pam = read_pam(alloc, contract, names)?;
     Ok(Terms {
         common,
@@ -157,7 +174,7 @@ fn read_lam_terms(
         → lam_terms_of number names.old (view contract.now) ≡ Err fault) }
     ensures built { IfOk result (λ terms. IsBuilt terms.kind) }
 {
-    let common = read_common(alloc, contract, number, names)?;
+    let common = read_common(alloc, ContractType::LAM, contract, number, names)?;
     let lam = read_lam(alloc, contract, names)?;
     Ok(Terms {
         common,
@@ -178,7 +195,7 @@ fn read_nam_terms(
         → nam_terms_of number names.old (view contract.now) ≡ Err fault) }
     ensures built { IfOk result (λ terms. IsBuilt terms.kind) }
 {
-    let common = read_common(alloc, contract, number, names)?;
+    let common = read_common(alloc, ContractType::NAM, contract, number, names)?;
     let nam = read_nam(alloc, contract, names)?;
     Ok(Terms {
         common,
@@ -199,7 +216,7 @@ fn read_ann_terms(
         → ann_terms_of number names.old (view contract.now) ≡ Err fault) }
     ensures built { IfOk result (λ terms. IsBuilt terms.kind) }
 {
-    let common = read_common(alloc, contract, number, names)?;
+    let common = read_common(alloc, ContractType::ANN, contract, number, names)?;
     let ann = read_ann(alloc, contract, names)?;
     Ok(Terms {
         common,
@@ -220,9 +237,72 @@ fn read_stk_terms(
         → stk_terms_of number names.old (view contract.now) ≡ Err fault) }
     ensures built { IfOk result (λ terms. IsBuilt terms.kind) }
 {
-    let common = read_common(alloc, contract, number, names)?;
+    let common = read_common(alloc, ContractType::STK, contract, number, names)?;
     Ok(Terms {
         common,
         kind: Kind::STK(Stk {}),
+    })
+}
+
+/// The terms of a FXOUT.
+#[tactic(auto, unfolding(crate::specs::Contract::fxout_terms_of))]
+fn read_fxout_terms(
+    alloc: Global,
+    contract: &Value,
+    number: u32,
+    names: &mut Names,
+) -> Result<Terms, TermsFault>
+    ensures read { IfOk result (λ terms. fxout_terms_of number names.old (view contract.now) ≡ Ok (terms, names.new)) }
+    ensures refused { IfErr result (λ fault. fault ≢ TermsFault.NoMemory
+        → fxout_terms_of number names.old (view contract.now) ≡ Err fault) }
+    ensures built { IfOk result (λ terms. IsBuilt terms.kind) }
+{
+    let common = read_common(alloc, ContractType::FXOUT, contract, number, names)?;
+    let fxout = read_fxout(alloc, contract, names)?;
+    Ok(Terms {
+        common,
+        kind: Kind::FXOUT(fxout),
+    })
+}
+
+/// The terms of an OPTNS.
+#[tactic(auto, unfolding(crate::specs::Contract::optns_terms_of))]
+fn read_optns_terms(
+    alloc: Global,
+    contract: &Value,
+    number: u32,
+    names: &mut Names,
+) -> Result<Terms, TermsFault>
+    ensures read { IfOk result (λ terms. optns_terms_of number names.old (view contract.now) ≡ Ok (terms, names.new)) }
+    ensures refused { IfErr result (λ fault. fault ≢ TermsFault.NoMemory
+        → optns_terms_of number names.old (view contract.now) ≡ Err fault) }
+    ensures built { IfOk result (λ terms. IsBuilt terms.kind) }
+{
+    let common = read_common(alloc, ContractType::OPTNS, contract, number, names)?;
+    let optns = read_optns(contract)?;
+    Ok(Terms {
+        common,
+        kind: Kind::OPTNS(optns),
+    })
+}
+
+/// The terms of a FUTUR.
+#[tactic(auto, unfolding(crate::specs::Contract::futur_terms_of))]
+fn read_futur_terms(
+    alloc: Global,
+    contract: &Value,
+    number: u32,
+    names: &mut Names,
+) -> Result<Terms, TermsFault>
+    ensures read { IfOk result (λ terms. futur_terms_of number names.old (view contract.now) ≡ Ok (terms, names.new)) }
+    ensures refused { IfErr result (λ fault. fault ≢ TermsFault.NoMemory
+        → futur_terms_of number names.old (view contract.now) ≡ Err fault) }
+    ensures built { IfOk result (λ terms. IsBuilt terms.kind) }
+{
+    let common = read_common(alloc, ContractType::FUTUR, contract, number, names)?;
+    let futur = read_futur(contract)?;
+    Ok(Terms {
+        common,
+        kind: Kind::FUTUR(futur),
     })
 }

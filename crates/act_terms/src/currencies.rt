@@ -6,12 +6,12 @@ ghost use Rattle.act_json.specs.Results.{result_map};
 ghost use Rattle.std.specs.Option.{ForSome};
 ghost use Rattle.act_model.specs.Name.{is_currency, is_name};
 ghost use Rattle.act_terms.specs.Fault.{read_map};
-ghost use Rattle.act_terms.specs.Names.{code_where, contract_id, currencies_of, currency_field, id_named, numbered, numbered_currencies, pair_name, with_currency, with_factor};
+ghost use Rattle.act_terms.specs.Names.{code_where, contract_id, currencies_of, currency_field, id_named, may_settle, numbered, numbered_currencies, pair_name, settlement_of, with_currency, with_factor};
 
 use crate::fault::{TermCause, TermsFault, refused};
 use crate::fields::{needed, needed_where, optional};
-use act_json::{JsonFault, word};
-use act_model::{Names, is_currency};
+use act_json::{JsonFault, text_in, word};
+use act_model::{ContractType, Names, is_currency};
 use act_num::NoMemory;
 use serde_json::Value;
 use std::alloc::Global;
@@ -61,30 +61,56 @@ pub(crate) fn code_where(
     }
 }
 
-/// The currency of the amounts, the one in which they are settled, and the code of the rate between them where they
-/// differ.
+/// The currency of the amounts of a contract of that type, the one in which they are settled, and the code of the rate
+/// between them where they differ.
 #[tactic(auto, using(crate::proofs::CodeNames::currency_is_name), unfolding(crate::specs::Names::currencies_of))]
 pub(crate) fn read_currencies(
     alloc: Global,
+    contract_type: ContractType,
     contract: &Value,
     names: &mut Names,
 ) -> Result<Currencies, TermsFault>
-    ensures read { IfOk result (λ money. currencies_of names.old (view contract.now) ≡ Ok (money, names.new)) }
+    ensures read { IfOk result (λ money. currencies_of contract_type names.old (view contract.now) ≡ Ok (money, names.new)) }
     ensures refused { IfErr result (λ fault. fault ≢ TermsFault.NoMemory
-        → currencies_of names.old (view contract.now) ≡ Err fault) }
+        → currencies_of contract_type names.old (view contract.now) ≡ Err fault) }
 {
-    let currency = needed("currency", currency_field(alloc, contract, "currency"))?;
-    let settlement = optional(
-        "settlementCurrency",
-        currency_field(alloc, contract, "settlementCurrency"),
-    )?;
-    match settlement {
-        Some(settlement) => { Ok(settled(alloc, currency.as_str(), settlement.as_str(), names)?) }
+    let currency = needed("currency", currency_in(contract, "currency"))?;
+    match settlement_currency(contract_type, contract)? {
+        Some(settlement) => Ok(settled(alloc, currency, settlement, names)?),
         None => Ok(Currencies {
-            currency: names.intern_currency(currency.as_str())?,
+            currency: names.intern_currency(currency)?,
             settlement_currency: None,
             factor: None,
         }),
+    }
+}
+
+/// Whether contracts of a type may be settled in another currency.
+pub(crate) fn may_settle(contract_type: ContractType) -> bool
+    ensures { result ≡ may_settle contract_type }
+{
+    match contract_type {
+        ContractType::FXOUT => false,
+        _ => true,
+    }
+}
+
+/// The currency in which amounts are settled, where it is given, of a type that uses it.
+#[tactic(auto, unfolding(crate::specs::Names::settlement_of))]
+fn settlement_currency<'a>(
+    contract_type: ContractType,
+    contract: &'a Value,
+) -> Result<Option<&'a str>, TermsFault>
+    ensures read { read_map (option_map (λ text. text.now)) result ≡ settlement_of contract_type (view contract.now) }
+    ensures name { IfOk result (λ found. ForSome found (λ currency. is_currency currency.now ≡ true)) }
+{
+    if may_settle(contract_type) {
+        optional(
+            "settlementCurrency",
+            currency_in(contract, "settlementCurrency"),
+        )
+    } else {
+        Ok(None)
     }
 }
 
@@ -129,7 +155,7 @@ fn factor(
 }
 
 /// The name of the rate between two currencies, as `EUR/USD`.
-fn pair_name(alloc: Global, currency: &str, other: &str) -> Result<String, NoMemory>
+pub(crate) fn pair_name(alloc: Global, currency: &str, other: &str) -> Result<String, NoMemory>
     ensures { IfOk result (λ pair. string_bytes pair ≡ pair_name currency.now other.now) }
 {
     let mut pair = String::from_str(alloc, currency)?;
@@ -138,14 +164,13 @@ fn pair_name(alloc: Global, currency: &str, other: &str) -> Result<String, NoMem
     Ok(pair)
 }
 
-/// The currency that a term names. BadName where the text is none.
-fn currency_field(alloc: Global, contract: &Value, term: &str) -> Result<Option<String>, JsonFault>
-    ensures field { result ≢ Err JsonFault.NoMemory
-        → result_map (option_map string_bytes) result ≡ currency_field term.now (view contract.now) }
-    ensures name { IfOk result (λ found. ForSome found (λ currency. is_currency (string_bytes currency) ≡ true)) }
+/// The currency that a term names, where it stands in the object. BadName where the text is none. It takes no memory.
+pub(crate) fn currency_in<'a>(contract: &'a Value, term: &str) -> Result<Option<&'a str>, JsonFault>
+    ensures field { result_map (option_map (λ text. text.now)) result ≡ currency_field term.now (view contract.now) }
+    ensures name { IfOk result (λ found. ForSome found (λ currency. is_currency currency.now ≡ true)) }
 {
-    match word(alloc, contract, term)? {
-        Some(currency) if !is_currency(currency.as_str()) => Err(JsonFault::BadName),
+    match text_in(contract, term)? {
+        Some(currency) if !is_currency(currency) => Err(JsonFault::BadName),
         found => Ok(found),
     }
 }

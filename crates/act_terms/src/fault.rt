@@ -5,22 +5,25 @@ ghost use Rattle.act_terms.specs.declared.fault.TermsFault.TheVariants as faults
 
 use act_json::JsonFault;
 use act_num::NoMemory;
+use std::alloc::AllocFailed;
 use std::marker::Model;
 
 /// Why a term is refused. The numbers are those of a portfolio's refusals.
 #[derive(Clone, Copy, PartialEq, Eq)]
 pub enum TermCause {
-    /// It is given and no text, or the contract is no object. What `act_json` reads has texts for bare numbers.
+    /// It is given and no text, or the contract is no object; of a structure, it is no list, an element is no object, or
+    /// what an element refers to isn't given or is another value. What `act_json` reads has texts for bare numbers.
     WrongShape = 11,
     /// It is required and not given: the object lacks it, or has null or the empty text there.
     MissingTerm = 12,
-    /// It has a text of another form, or breaks its bound.
+    /// It has a text of another form, or breaks its bound; of a structure, an element's type or role is none.
     BadValue = 13,
-    /// It names something, and its text is no name.
+    /// It names something, and its text is no name; of a structure, an element does.
     BadName = 14,
     /// It is the type of the contract, and no contract has this type.
     UnknownKind = 15,
-    /// It is the type of the contract, and contracts of this type aren't built yet.
+    /// It is the type of the contract, and contracts of this type aren't built yet; or a structure that refers to contracts,
+    /// which isn't built yet either.
     NotBuilt = 24,
 }
 
@@ -64,6 +67,14 @@ pub enum TermsFault {
     Refused(TermFault),
     /// Memory ran out.
     NoMemory,
+}
+
+impl<T: Drop> From<AllocFailed<T>> for TermsFault {
+    ghost from_gives = { λ _ fault. fault ≡ faults.NoMemory };
+
+    fn from(_error: AllocFailed<T>) -> TermsFault {
+        TermsFault::NoMemory
+    }
 }
 
 impl From<NoMemory> for TermsFault {

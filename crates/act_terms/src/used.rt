@@ -1,21 +1,22 @@
 //! Which names of a contract's object are terms of its type.
 ghost use Rattle.std.specs.Prelude.{◌≡◌, ◌∷◌, ◌++◌, [], IfOk, OnOk, map, string_bytes};
 ghost use Rattle.serde_json.specs.View.{view};
-ghost use Rattle.act_terms.specs.Used.{is_among, is_term_of, own_terms, unused_names};
+ghost use Rattle.act_terms.specs.Used.{is_among, is_term_of, own_terms, settlement_terms, shared_terms, unused_names};
 
+use crate::currencies::may_settle;
 use act_model::ContractType;
 use act_num::NoMemory;
 use serde_json::Value;
 use std::alloc::Global;
 
-/// The terms that every contract has, in the order in which they are read.
-const COMMON_TERMS: [&str; 14] = [
+/// The terms that every contract has, in the order in which they are read. All but an outright have `settlementCurrency`
+/// besides.
+const COMMON_TERMS: [&str; 13] = [
     "contractID",
     "contractType",
     "contractRole",
     "statusDate",
     "currency",
-    "settlementCurrency",
     "calendar",
     "businessDayConvention",
     "endOfMonthConvention",
@@ -73,6 +74,34 @@ const REDEMPTION_TERMS: [&str; 7] = [
     "cycleOfInterestCalculationBase",
 ];
 
+/// The terms of an outright, in the order in which they are read.
+const OUTRIGHT_TERMS: [&str; 5] = [
+    "maturityDate",
+    "notionalPrincipal",
+    "currency2",
+    "notionalPrincipal2",
+    "deliverySettlement",
+];
+
+/// The terms of an option, in the order in which they are read.
+const OPTION_TERMS: [&str; 7] = [
+    "maturityDate",
+    "optionType",
+    "optionStrike1",
+    "optionStrike2",
+    "optionExerciseType",
+    "settlementPeriod",
+    "contractStructure",
+];
+
+/// The terms of a future, in the order in which they are read.
+const FUTURE_TERMS: [&str; 4] = [
+    "maturityDate",
+    "futuresPrice",
+    "settlementPeriod",
+    "contractStructure",
+];
+
 /// The names of a contract's object that aren't terms of that type, in byte order, each once and whatever its value is,
 /// null and the empty text too. Of a type that isn't read yet the terms are those that every contract has. A value that
 /// is no object has no names. NoMemory where memory runs out.
@@ -108,10 +137,24 @@ fn push_name(names: &mut Vec<String>, name: &str) -> Result<(), NoMemory>
 fn is_term_of(contract_type: ContractType, name: &str) -> bool
     ensures { result ≡ is_term_of contract_type name.now }
 {
-    is_among(&COMMON_TERMS, name) || is_own_term(contract_type, name)
+    is_shared_term(contract_type, name) || is_own_term(contract_type, name)
 }
 
-/// Whether a name is a term of that type beside those that every contract has.
+/// Whether a name is a term that the type shares with others.
+fn is_shared_term(contract_type: ContractType, name: &str) -> bool
+    ensures { result ≡ is_among (shared_terms contract_type) name.now }
+{
+    is_among(&COMMON_TERMS, name) || is_settlement_term(contract_type, name)
+}
+
+/// Whether a name is that of the settlement currency, of a type that uses it.
+fn is_settlement_term(contract_type: ContractType, name: &str) -> bool
+    ensures { result ≡ is_among (settlement_terms contract_type) name.now }
+{
+    may_settle(contract_type) && is_among(&["settlementCurrency"], name)
+}
+
+/// Whether a name is a term of that type beside those that it shares with others.
 fn is_own_term(contract_type: ContractType, name: &str) -> bool
     ensures { result ≡ is_among (own_terms contract_type) name.now }
 {
@@ -120,6 +163,9 @@ fn is_own_term(contract_type: ContractType, name: &str) -> bool
         ContractType::LAM | ContractType::NAM | ContractType::ANN => {
             is_among(&LOAN_TERMS, name) || is_among(&REDEMPTION_TERMS, name)
         }
+        ContractType::FXOUT => is_among(&OUTRIGHT_TERMS, name),
+        ContractType::OPTNS => is_among(&OPTION_TERMS, name),
+        ContractType::FUTUR => is_among(&FUTURE_TERMS, name),
         _ => false,
     }
 }

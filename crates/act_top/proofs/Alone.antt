@@ -5,6 +5,7 @@ use Rattle.act_json.specs.Reading.{json_of}
 use Rattle.act_model.specs.Names.{NameLists, no_names}
 use Rattle.act_model.specs.Run.{EventPlan}
 use Rattle.act_model.specs.declared.terms.Terms.{Terms}
+use Rattle.act_portfolio.specs.Binding.{bound, first_unfit, fitting}
 use Rattle.act_portfolio.specs.Reading.{Accepted, accepted, contracts_from, first_repeated, list_of, plans_from, portfolio_listed, portfolio_of, unrepeated, within_limit}
 use Rattle.act_portfolio.specs.Refusal.{Refusal, no_json, refusing}
 use Rattle.act_profile.specs.Outcomes.{then_ok}
@@ -40,12 +41,14 @@ alone-of bytes portfolio is =
     let value = ok-then (λ value. then_ok portfolio_listed (list_of value)) (refusing (λ fault. no_json) (json_of bytes)) portfolio opened in
     let contracts = ok-then portfolio_listed (list_of value.0) portfolio value.1 in
     let last : List NamedTerms × NameLists → List EventPlan → Result Accepted Refusal = λ read plans. Ok (accepted contracts.0 read.0 read.1 plans) in
-    let fourth = λ (read : List NamedTerms × NameLists) (ids : List (List ℕ)). then_ok (last read) (plans_from zero (map (λ (c : NamedTerms). c.terms) read.0)) in
+    let fifth = λ (read : List NamedTerms × NameLists) (fit : List NamedTerms). then_ok (last read) (plans_from zero (map bound read.0)) in
+    let fourth = λ (read : List NamedTerms × NameLists) (ids : List (List ℕ)). then_ok (fifth read) (fitting (first_unfit read.0) read.0) in
     let third = λ (read : List NamedTerms × NameLists). then_ok (fourth read) (unrepeated (first_repeated [] (map (λ (c : NamedTerms). c.id) read.0)) (map (λ (c : NamedTerms). c.id) read.0)) in
     let second = λ (read : List NamedTerms × NameLists). then_ok (λ few. third read) (within_limit contracts.0) in
     let listed : then_ok second (contracts_from zero no_names contracts.0) ≡ Ok portfolio = contracts.1 in
     let read = ok-then second (contracts_from zero no_names contracts.0) portfolio listed in
     let few = ok-then (λ few. third read.0) (within_limit contracts.0) portfolio read.1 in
     let ids = ok-then (fourth read.0) (unrepeated (first_repeated [] (map (λ (c : NamedTerms). c.id) read.0.0)) (map (λ (c : NamedTerms). c.id) read.0.0)) portfolio few.1 in
-    let plans = ok-then (last read.0) (plans_from zero (map (λ (c : NamedTerms). c.terms) read.0.0)) portfolio ids.1 in
-    subst AreAlone (same-ok _ portfolio plans.1) (alone-accepted read.0.0 (λ (c : NamedTerms). c.id) (λ (c : NamedTerms). c.terms) read.0.1 plans.0 _)
+    let fit = ok-then (fifth read.0) (fitting (first_unfit read.0.0) read.0.0) portfolio ids.1 in
+    let plans = ok-then (last read.0) (plans_from zero (map bound read.0.0)) portfolio fit.1 in
+    subst AreAlone (same-ok _ portfolio plans.1) (alone-accepted read.0.0 (λ (c : NamedTerms). c.id) bound read.0.1 plans.0 _)

@@ -167,13 +167,20 @@ is_end End = true
 is_end (Missing code day) = false
 is_end (Overflow day kind) = false
 
--- each run of an answer ends well
-abbrev pub ends_well : Reply → Bool
-ends_well answer = list_all (λ (run : ℕ × Stream). is_end run.1.close) answer.runs
+-- each of these runs ends well
+abbrev pub all_end : List (ℕ × Stream) → Bool
+all_end runs = list_all (λ (run : ℕ × Stream). is_end run.1.close) runs
 
--- how many rows an answer has
+-- how many rows these runs have
+abbrev pub rows_of : List (ℕ × Stream) → ℕ
+rows_of runs = sum_by (λ (run : ℕ × Stream). length run.1.rows) runs
+
+-- the same of an answer's runs
+abbrev pub ends_well : Reply → Bool
+ends_well answer = all_end answer.runs
+
 abbrev pub row_count : Reply → ℕ
-row_count answer = sum_by (λ (run : ℕ × Stream). length run.1.rows) answer.runs
+row_count answer = rows_of answer.runs
 
 -- the status of answers
 abbrev pub answers_status : List Reply → Status

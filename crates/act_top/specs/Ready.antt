@@ -1,6 +1,6 @@
 -- What is ready to be written. This profile's own.
-use Rattle.std.specs.Prelude.{◌≡◌, ◌<◌, ◌≤◌, ℕ, Bool, not, true, List, [], ◌++◌, length, map, slice_get, Some, None}
-use Rattle.std.specs.List.{All, count_by, flat_map, list_all, sum_by}
+use Rattle.std.specs.Prelude.{◌≡◌, ◌<◌, ◌≤◌, ℕ, not, true, List, [], ◌++◌, length, map, slice_get, Some, None}
+use Rattle.std.specs.List.{All, count_by, flat_map, sum_by}
 use Rattle.act_model.specs.Names.{NameLists}
 use Rattle.act_model.specs.declared.journal.Asked.{Asked}
 use Rattle.act_model.specs.declared.observed.Obs.{Obs}
@@ -14,7 +14,7 @@ use Rattle.act_script.specs.Reading.{Script}
 use Rattle.act_model.specs.Journal.{appends_entry, contracts_of, is_append, is_known}
 use Rattle.act_profile.specs.Answers.{answers_of}
 use Rattle.act_profile.specs.Run.{Contracts, run_of}
-use Rattle.act_top.specs.Output.{Outcome, answers_status, is_end, items_of, output_of, row_count, too_much_asked}
+use Rattle.act_top.specs.Output.{Outcome, answers_status, items_of, output_of, row_count, too_much_asked}
 
 -- what is true of the lines of a script of a portfolio: the contracts are the portfolio's, what a step names is named, what it appends is an
 -- entry of a book, and a book holds them all
@@ -44,15 +44,9 @@ pub record Evaluation : Type 0 where
 abbrev pub runs_asked : Contracts → NameLists → List Obs → Asked → List (ℕ × Stream)
 runs_asked contracts names entries asked = map (λ c. (c, run_of contracts entries c)) (contracts_of names asked)
 
--- their blocks, whether each ends in `end`, and how many rows they have
+-- their blocks
 abbrev pub runs_text : NameLists → List (ℕ × Stream) → List ℕ
 runs_text names runs = flat_map (λ (run : ℕ × Stream). block_text names (printed_block run)) runs
-
-abbrev pub all_end : List (ℕ × Stream) → Bool
-all_end runs = list_all (λ (run : ℕ × Stream). is_end run.1.close) runs
-
-abbrev pub rows_of : List (ℕ × Stream) → ℕ
-rows_of runs = sum_by (λ (run : ℕ × Stream). length run.1.rows) runs
 
 -- what is written of a script above its answers: the journal, and how many answers follow
 abbrev pub opening_text : Script → List ℕ

@@ -6,8 +6,8 @@ ghost use Rattle.act_print.specs.Printed.{printed_answer, printed_block};
 ghost use Rattle.act_print.specs.Text.{answer_text, block_text};
 ghost use Rattle.act_profile.specs.Answers.{answer_to, answers_of};
 ghost use Rattle.act_profile.specs.Run.{run_of};
-ghost use Rattle.act_top.specs.Output.{ends_well, is_end, items_of, output_of, row_count};
-ghost use Rattle.act_top.specs.Ready.{AreAlone, all_end, rows_of, runs_asked, runs_text};
+ghost use Rattle.act_top.specs.Output.{all_end, ends_well, is_end, items_of, output_of, row_count, rows_of};
+ghost use Rattle.act_top.specs.Ready.{AreAlone, runs_asked, runs_text};
 ghost use Rattle.act_top.specs.Written.{Writes, faults_after};
 
 use crate::evaluation::Evaluation;

@@ -1,7 +1,7 @@
 //! The program `actus`: runs the command of its words, and ends with the number of its status.
 #![tactic(auto)]
 
-ghost use Rattle.std.specs.Prelude.{◌≡◌, ◌≢◌, ◌<◌, IfSome, None, map, string_bytes};
+ghost use Rattle.std.specs.Prelude.{◌≡◌, ◌≢◌, ◌<◌, if◌then◌else◌, IfSome, None, map, string_bytes};
 ghost use Rattle.act_io.specs.Faults.{next_count};
 ghost use Rattle.act_top.specs.Asked.{AsksFor};
 ghost use Rattle.act_top.specs.Command.{command_of};
@@ -74,6 +74,8 @@ fn run<L: Ledger, F: Files, K: Sink>(
 }
 
 /// The status of a command, by whether what was gathered is written.
-fn ended(status: Status, written: bool) -> Status {
+fn ended(status: Status, written: bool) -> Status
+    ensures { result ≡ (if written then status else Status.WriteFault) }
+{
     if written { status } else { Status::WriteFault }
 }

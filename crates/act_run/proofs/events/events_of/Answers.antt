@@ -1,8 +1,10 @@
 use Rattle.std.proofs.Common.{◌∙◌, ap}
+use Rattle.act_model.specs.Observed.{observed_events}
 use Rattle.act_run.proofs.Observations.{events_of-built}
 use Rattle.act_run.proofs.events.events_of.Goals as goal
 
 pub returns : goal.returns
 returns g c =
-    c.retain_counting.ensures
-    ∙ events_of-built c.args.terms.now c.args.plan.now (g.O.Observed.entries c.args.seen.now) _ _ _ c.requires (c.in_ok-events.ensures.items ∙ c.deref.ensures.value ∙ ap (λ p. p.events) c.plan.view_is) c.in_ok-add_observed.ensures c.in_ok-put_in_order.ensures.in_order
+    let entries = g.O.Observed.entries c.args.seen.now in
+    let own = c.deref.ensures.value ∙ c.in_ok-own.ensures ∙ ap (observed_events entries) c.observed_as.ensures in
+    events_of-built c.args.terms.now c.args.plan.now entries _ _ _ c.requires (c.in_ok-events.ensures entries own) c.retain_counting.ensures c.with_exercise.ensures

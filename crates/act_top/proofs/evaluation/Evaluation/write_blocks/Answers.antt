@@ -4,7 +4,8 @@ use Rattle.std.proofs.Math.Bool.{and_assoc, and-true}
 use Rattle.std.proofs.lemmas.List.Sums.{sum_by-cons}
 use Rattle.act_model.specs.Run.{Stream}
 use Rattle.act_profile.specs.Run.{run_of}
-use Rattle.act_top.specs.Ready.{all_end, rows_of, runs_text}
+use Rattle.act_top.specs.Output.{all_end, rows_of}
+use Rattle.act_top.specs.Ready.{runs_text}
 use Rattle.act_top.proofs.Runs.{runs-next, runs-none, runs_from}
 use Rattle.act_top.proofs.Texts.{faults-on, left-all, left-next, left-none, left-part, writes-part}
 use Rattle.act_top.proofs.evaluation.Evaluation.write_blocks.Goals as goal

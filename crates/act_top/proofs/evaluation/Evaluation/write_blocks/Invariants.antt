@@ -1,7 +1,8 @@
 use Rattle.std.proofs.Common.{◌≡◌, ◌+◌}
 use Rattle.std.specs.Prelude.{◌&&◌}
 use Rattle.act_profile.specs.Run.{run_of}
-use Rattle.act_top.specs.Ready.{all_end, rows_of, runs_text}
+use Rattle.act_top.specs.Output.{all_end, rows_of}
+use Rattle.act_top.specs.Ready.{runs_text}
 use Rattle.act_top.proofs.Runs.{runs_from}
 use Rattle.act_top.proofs.Texts.{Left}
 use Rattle.act_top.proofs.evaluation.Evaluation.write_blocks.Given as goal

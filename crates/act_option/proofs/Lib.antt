@@ -1,0 +1,2 @@
+pub mod Exercised
+pub mod FirstExercise

@@ -1,0 +1,249 @@
+//! The structure of a contract: the elements of its `contractStructure`, each a reference.
+ghost use Rattle.std.specs.Prelude.{◌≡◌, ◌≢◌, Ok, Err, IfOk, IfErr, map, option_map};
+ghost use Rattle.serde_json.specs.View.{view};
+ghost use Rattle.act_json.specs.Results.{result_map};
+ghost use Rattle.act_terms.specs.Fault.{read_map};
+ghost use Rattle.act_terms.specs.Fields.{choice_field};
+ghost use Rattle.act_terms.specs.Structure.{choice_or_refusal, contract_inside, contract_named, contract_text, elements_of, has_structure, inner_object, is_contract, market_named, market_text, refer_to_contract, reference_of, reference_within, references_from, references_of, referred_of, structure_of, without_contracts};
+
+use crate::choices::{Choice, choice_in};
+use crate::fault::{TermCause, TermsFault, refused};
+use crate::reference::{Reference, ReferenceType, Referred};
+use act_json::{JsonFault, text_in};
+use act_model::{ContractType, Names, is_name};
+use serde_json::Value;
+use std::alloc::Global;
+
+/// The references of a contract of a type, in the order of its structure. Of a type that doesn't use it nothing is read.
+#[tactic(auto, unfolding(crate::specs::Structure::references_of))]
+pub(crate) fn read_references(
+    alloc: Global,
+    contract_type: ContractType,
+    contract: &Value,
+    names: &mut Names,
+) -> Result<Vec<Reference>, TermsFault>
+    ensures read { IfOk result (λ references.
+        references_of contract_type names.old (view contract.now) ≡ Ok (references.items, names.new)) }
+    ensures refused { IfErr result (λ fault. fault ≢ TermsFault.NoMemory
+        → references_of contract_type names.old (view contract.now) ≡ Err fault) }
+{
+    if has_structure(contract_type) {
+        read_structure(alloc, contract, names)
+    } else {
+        Ok(Vec::new(alloc))
+    }
+}
+
+/// Whether contracts of a type have a structure.
+fn has_structure(contract_type: ContractType) -> bool
+    ensures { result ≡ has_structure contract_type }
+{
+    match contract_type {
+        ContractType::OPTNS | ContractType::FUTUR => true,
+        _ => false,
+    }
+}
+
+/// The references of a structure, none of which may be to a contract yet.
+#[tactic(auto, unfolding(crate::specs::Structure::structure_of))]
+fn read_structure(
+    alloc: Global,
+    contract: &Value,
+    names: &mut Names,
+) -> Result<Vec<Reference>, TermsFault>
+    ensures read { IfOk result (λ references. structure_of names.old (view contract.now) ≡ Ok (references.items, names.new)) }
+    ensures refused { IfErr result (λ fault. fault ≢ TermsFault.NoMemory
+        → structure_of names.old (view contract.now) ≡ Err fault) }
+{
+    let elements = elements(contract)?;
+    let references = read_elements(alloc, elements, names)?;
+    without_contracts(&references)?;
+    Ok(references)
+}
+
+/// The elements of a structure, which has to be given and to be a list.
+#[tactic(auto, using(crate::proofs::Elements::listed_again), unfolding(crate::specs::Structure::elements_of))]
+fn elements(contract: &Value) -> Result<&[Value], TermsFault>
+    ensures { read_map (λ elements. map view elements.now) result ≡ elements_of (view contract.now) }
+{
+    match contract.get("contractStructure") {
+        Some(Value::Array(elements)) => Ok(elements.as_slice()),
+        None | Some(Value::Null) => Err(refused(TermCause::MissingTerm, "contractStructure")),
+        Some(Value::String(text)) if text.is_empty() => {
+            Err(refused(TermCause::MissingTerm, "contractStructure"))
+        }
+        Some(_) => Err(refused(TermCause::WrongShape, "contractStructure")),
+    }
+}
+
+/// The references that elements are, in their order.
+fn read_elements(
+    alloc: Global,
+    elements: &[Value],
+    names: &mut Names,
+) -> Result<Vec<Reference>, TermsFault>
+    ensures read { IfOk result (λ references. references_from names.old (map view elements.now) ≡ Ok (references.items, names.new)) }
+    ensures refused { IfErr result (λ fault. fault ≢ TermsFault.NoMemory
+        → references_from names.old (map view elements.now) ≡ Err fault) }
+{
+    let mut references = Vec::new(alloc);
+    for element in elements {
+        let reference = read_reference(element, names)?;
+        references.push(reference)?;
+    }
+    Ok(references)
+}
+
+/// The reference that an element is.
+#[tactic(auto, unfolding(crate::specs::Structure::reference_of))]
+fn read_reference(element: &Value, names: &mut Names) -> Result<Reference, TermsFault>
+    ensures read { IfOk result (λ reference. reference_of names.old (view element.now) ≡ Ok (reference, names.new)) }
+    ensures refused { IfErr result (λ fault. fault ≢ TermsFault.NoMemory
+        → reference_of names.old (view element.now) ≡ Err fault) }
+{
+    if !element.is_object() {
+        return Err(refused(TermCause::WrongShape, "contractStructure"));
+    }
+    reference_within(element, names)
+}
+
+/// The reference that the members of an element make.
+#[tactic(auto, unfolding(crate::specs::Structure::reference_within))]
+fn reference_within(element: &Value, names: &mut Names) -> Result<Reference, TermsFault>
+    ensures read { IfOk result (λ reference. reference_within names.old (view element.now) ≡ Ok (reference, names.new)) }
+    ensures refused { IfErr result (λ fault. fault ≢ TermsFault.NoMemory
+        → reference_within names.old (view element.now) ≡ Err fault) }
+{
+    let reference_type = chosen_in(element, "referenceType")?;
+    let role = chosen_in(element, "referenceRole")?;
+    let object = read_referred(reference_type, element, names)?;
+    Ok(Reference { role, object })
+}
+
+/// A choice that a member of an element has to give.
+fn chosen_in<T: Choice>(element: &Value, name: &str) -> Result<T, TermsFault>
+    ensures { result ≡ choice_or_refusal (choice_field T.named name.now (view element.now)) }
+{
+    match choice_in(element, name) {
+        Ok(Some(choice)) => Ok(choice),
+        Ok(None) | Err(_) => Err(refused(TermCause::BadValue, "contractStructure")),
+    }
+}
+
+/// What an element of that type refers to.
+#[tactic(auto, unfolding(crate::specs::Structure::referred_of))]
+fn read_referred(
+    reference_type: ReferenceType,
+    element: &Value,
+    names: &mut Names,
+) -> Result<Referred, TermsFault>
+    ensures read { IfOk result (λ referred.
+        referred_of reference_type names.old (view element.now) ≡ Ok (referred, names.new)) }
+    ensures refused { IfErr result (λ fault. fault ≢ TermsFault.NoMemory
+        → referred_of reference_type names.old (view element.now) ≡ Err fault) }
+{
+    match reference_type {
+        ReferenceType::CNT => contract_inside(element),
+        ReferenceType::CID => contract_named(element),
+        ReferenceType::MOC => market_named(element, names),
+    }
+}
+
+/// A contract that stands in the element.
+#[tactic(auto, unfolding(crate::specs::Structure::contract_inside))]
+fn contract_inside(element: &Value) -> Result<Referred, TermsFault>
+    ensures { result ≡ contract_inside (view element.now) }
+{
+    match inner_object(element) {
+        Some(_) => Ok(Referred::Contract),
+        None => Err(refused(TermCause::WrongShape, "contractStructure")),
+    }
+}
+
+/// A contract that the element names.
+#[tactic(auto, unfolding(crate::specs::Structure::contract_named))]
+fn contract_named(element: &Value) -> Result<Referred, TermsFault>
+    ensures { result ≡ contract_named (view element.now) }
+{
+    match contract_text(element) {
+        Ok(Some(name)) if is_name(name) => Ok(Referred::Contract),
+        Ok(Some(_)) => Err(refused(TermCause::BadName, "contractStructure")),
+        Ok(None) | Err(_) => Err(refused(TermCause::WrongShape, "contractStructure")),
+    }
+}
+
+/// The market object that the element names.
+#[tactic(auto, unfolding(crate::specs::Structure::market_named))]
+fn market_named(element: &Value, names: &mut Names) -> Result<Referred, TermsFault>
+    ensures read { IfOk result (λ referred. market_named names.old (view element.now) ≡ Ok (referred, names.new)) }
+    ensures refused { IfErr result (λ fault. fault ≢ TermsFault.NoMemory
+        → market_named names.old (view element.now) ≡ Err fault) }
+{
+    match market_text(element) {
+        Ok(Some(code)) if is_name(code) => Ok(Referred::Market(names.intern_code(code)?)),
+        Ok(Some(_)) => Err(refused(TermCause::BadName, "contractStructure")),
+        Ok(None) | Err(_) => Err(refused(TermCause::WrongShape, "contractStructure")),
+    }
+}
+
+/// The text that names a contract.
+#[tactic(auto, unfolding(crate::specs::Structure::contract_text))]
+fn contract_text(element: &Value) -> Result<Option<&str>, JsonFault>
+    ensures { result_map (option_map (λ text. text.now)) result ≡ contract_text (view element.now) }
+{
+    match inner_object(element) {
+        Some(inner) => match text_in(inner, "contractIdentifier") {
+            Ok(None) => text_in(inner, "contractID"),
+            found => found,
+        },
+        None => text_in(element, "object"),
+    }
+}
+
+/// The text that names a market object.
+#[tactic(auto, unfolding(crate::specs::Structure::market_text))]
+fn market_text(element: &Value) -> Result<Option<&str>, JsonFault>
+    ensures { result_map (option_map (λ text. text.now)) result ≡ market_text (view element.now) }
+{
+    match inner_object(element) {
+        Some(inner) => text_in(inner, "marketObjectCode"),
+        None => text_in(element, "object"),
+    }
+}
+
+/// The member `object` of an element, where it is an object itself.
+fn inner_object(element: &Value) -> Option<&Value>
+    ensures { option_map (λ inner. view inner.now) result ≡ inner_object (view element.now) }
+{
+    match element.get("object") {
+        Some(inner) if inner.is_object() => Some(inner),
+        _ => None,
+    }
+}
+
+/// Nothing where no reference is to a contract: such references aren't built yet.
+fn without_contracts(references: &[Reference]) -> Result<(), TermsFault>
+    ensures { read_map (λ _. references.now) result ≡ without_contracts references.now }
+{
+    if refer_to_contract(references) {
+        return Err(refused(TermCause::NotBuilt, "contractStructure"));
+    }
+    Ok(())
+}
+
+/// Whether one of the references is to a contract.
+fn refer_to_contract(references: &[Reference]) -> bool
+    ensures { result ≡ refer_to_contract references.now }
+{
+    references.iter().any(|r| is_contract(r.object))
+}
+
+/// Whether a contract is referred to.
+fn is_contract(object: Referred) -> bool
+    ensures { result ≡ is_contract object }
+{
+    match object {
+        Referred::Contract => true,
+        Referred::Market(_) => false,
+    }
+}
