@@ -11,3 +11,4 @@ mod redemptions;
 mod terms;
 
 pub use amort::{schedule, start, step};
+pub use maturity::maturity_of;

@@ -10,7 +10,7 @@ use act_num::Fixed;
 
 /// The maturity T of a LAM: the given one, or the day of the last redemption that its payment leads to. `TooManyDates`
 /// says that it needs more than 4,096 redemptions, `DateRange` that T is past 2299 or isn't after the initial exchange.
-pub(crate) fn maturity_of(lam: &Lam) -> Result<Day, PlanFault>
+pub fn maturity_of(lam: &Lam) -> Result<Day, PlanFault>
     requires { DerivesMaturity lam.now lam.now.maturity_date }
     ensures { result ≡ maturity_of_lam lam.now }
 {

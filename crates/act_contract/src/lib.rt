@@ -1,7 +1,7 @@
-//! Any contract by its kind: its plan, its starting state, its steps and their currency. The one place that knows all
-//! kinds that are built.
+//! Any contract by its kind: its plan, its starting state, its steps and their currency, and its maturity. It hands each
+//! call to the crate of the kind.
 #![tactic(auto)]
 
 mod contract;
 
-pub use contract::{currency_of, schedule, start, step};
+pub use contract::{currency_of, maturity, schedule, start, step};

@@ -20,6 +20,7 @@ mod table;
 mod terms;
 
 pub use pam::{schedule, start, step};
+pub use planning::resets_on;
 pub use reset::reset_rate;
 pub use steps::{start_loan, step_loan};
 pub use table::LoanTable;

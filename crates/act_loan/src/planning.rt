@@ -202,19 +202,13 @@ impl LoanTerms<'_> {
             (option_map (resets_on self.now.common.status_date self.now.loan.rate_reset.next_reset_rate) (reset_dates self.now)) }
     {
         match self.reset_dates(alloc) {
-            Ok(dates) => self.resets_on(alloc, &dates),
+            Ok(dates) => resets_on(
+                alloc,
+                self.common.status_date,
+                self.loan.rate_reset.next_reset_rate,
+                &dates,
+            ),
             Err(fault) => Err(fault),
-        }
-    }
-
-    /// Resets on some dates.
-    fn resets_on(&self, alloc: Global, dates: &[Day]) -> Result<Vec<Planned>, PlanFault>
-        ensures { IsAnswer result
-            (Some (resets_on self.now.common.status_date self.now.loan.rate_reset.next_reset_rate dates.now)) }
-    {
-        match self.loan.rate_reset.next_reset_rate {
-            Some(_) => with_first_given(alloc, self.common.status_date, dates),
-            None => shifting(alloc, EventType::RR, dates),
         }
     }
 
@@ -251,6 +245,22 @@ impl LoanTerms<'_> {
             scaling.cycle_of_scaling_index,
         )?;
         shifting(alloc, EventType::SC, &dates)
+    }
+}
+
+/// Resets on some dates: RR, and where the next rate is given RRF in place of the first after the status date. The one
+/// fault is `NoMemory`.
+pub fn resets_on(
+    alloc: Global,
+    status_date: Day,
+    next_rate: Option<Fixed>,
+    dates: &[Day],
+) -> Result<Vec<Planned>, PlanFault>
+    ensures { IsAnswer result (Some (resets_on status_date next_rate dates.now)) }
+{
+    match next_rate {
+        Some(_) => with_first_given(alloc, status_date, dates),
+        None => shifting(alloc, EventType::RR, dates),
     }
 }
 

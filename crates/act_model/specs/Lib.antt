@@ -7,5 +7,6 @@ pub mod Limits
 pub mod Name
 pub mod Names
 pub mod Observed
+pub mod Reads
 pub mod Run
 pub mod Terms

@@ -9,6 +9,7 @@ mod limits;
 mod name;
 mod names;
 mod observed;
+mod reads;
 mod rows;
 mod run;
 mod state;
@@ -25,6 +26,7 @@ pub use limits::{MOST_BYTES, MOST_CONTRACTS, MOST_DATES, MOST_ENTRIES, MOST_NAME
 pub use name::{is_currency, is_name};
 pub use names::Names;
 pub use observed::{Listed, Obs, ObsKind, Observed, observed_is_last_of_latest_day};
+pub use reads::Reads;
 pub use rows::Rows;
 pub use run::{Close, Plan, PlanFault, Row, Run, Stop};
 pub use state::State;

@@ -2,7 +2,7 @@
 ghost use Rattle.std.specs.Prelude.{◌≡◌, ◌≢◌, ◌++◌, not, Ok, Err, IfOk};
 ghost use Rattle.std.specs.List.{filter, list_any};
 ghost use Rattle.act_date.specs.Civil.{last_day};
-ghost use Rattle.act_profile.specs.Exercise.{events_exercised_on, exercise_plan, settled_events, settlement_day};
+ghost use Rattle.act_profile.specs.Exercise.{events_exercised_on, exercise_events, exercise_plan, not_before, settled_events, settlement_day};
 ghost use Rattle.act_profile.specs.Order.{in_order, is_type};
 ghost use Rattle.act_profile.specs.Planning.{as_scheduled, event_on};
 ghost use Rattle.act_profile.specs.Trade.{event_where_given};
@@ -63,9 +63,21 @@ pub(crate) fn events_exercised_on(
     let mut events = Vec::new(alloc);
     push_where_given(&mut events, EventType::PRD, common.purchase_date)?;
     push_where_given(&mut events, EventType::TD, common.termination_date)?;
-    events.push(event_on(EventType::XD, as_scheduled(day)))?;
-    events.push(event_on(EventType::STD, settlement_day(common, period, day)))?;
+    push_exercise(&mut events, common, period, day)?;
     Ok(events)
+}
+
+/// Adds an exercise on a day, or a credit event, and the settlement of it after a period.
+pub fn push_exercise(
+    events: &mut Vec<Event>,
+    common: &Common,
+    period: Cycle,
+    day: Day,
+) -> Result<(), AllocError>
+    ensures { IfOk result (λ _. events.new.items ≡ events.old.items ++ exercise_events common.now period day) }
+{
+    events.push(event_on(EventType::XD, as_scheduled(day)))?;
+    Ok(events.push(event_on(EventType::STD, settlement_day(common, period, day)))?)
 }
 
 /// Adds the event of a date that isn't shifted, where it is given.
@@ -82,8 +94,8 @@ fn push_where_given(
     }
 }
 
-/// The event of a date that has been shifted.
-fn event_on(kind: EventType, shifted: Shifted) -> Event
+/// The scheduled event of a date that has been shifted.
+pub fn event_on(kind: EventType, shifted: Shifted) -> Event
     ensures { result ≡ event_on 0 kind shifted }
 {
     Event {
@@ -112,9 +124,19 @@ fn settlement_day(common: &Common, period: Cycle, day: Day) -> Shifted
     ensures { result ≡ settlement_day common.now period day }
 {
     match settled_on(common, period, day) {
-        Some(shifted) if shifted.day < day => as_scheduled(day),
-        Some(shifted) => shifted,
+        Some(shifted) => not_before(day, shifted),
         None => as_scheduled(last_day()),
+    }
+}
+
+/// A shifted day, or a day itself where that is later.
+pub fn not_before(day: Day, shifted: Shifted) -> Shifted
+    ensures { result ≡ not_before day shifted }
+{
+    if shifted.day < day {
+        as_scheduled(day)
+    } else {
+        shifted
     }
 }
 

@@ -91,7 +91,7 @@ fn exercise_by(kind: ObsKind, day: Day) -> Option<Day>
 }
 
 /// The earlier of two days, as far as they are there.
-fn earlier(first: Option<Day>, next: Option<Day>) -> Option<Day>
+pub fn earlier(first: Option<Day>, next: Option<Day>) -> Option<Day>
     ensures { result ≡ earlier first next }
 {
     match (first, next) {

@@ -8,5 +8,5 @@ mod exercise;
 mod table;
 
 pub use calls::{schedule, start, step};
-pub use events::settled_events;
-pub use exercise::exercised_events;
+pub use events::{event_on, not_before, push_exercise, settled_events};
+pub use exercise::{earlier, exercised_events};

@@ -1,19 +1,11 @@
 -- The list that a JSON value is.
-use Rattle.std.proofs.Common.{◌≡◌, suc, List, [], ◌∷◌, length, map, Some, Ok, refl, ap}
+use Rattle.std.proofs.Common.{◌≡◌, List, map, Some, Ok, ap}
 use Rattle.serde_json.specs.Data.{Data, null, boolean, number, string, array, object, Items}
-use Rattle.serde_json.specs.Events.{items_len}
 use Rattle.serde_json.specs.Find.{as_array}
-use Rattle.serde_json.specs.View.{items_of, items_view, view}
+use Rattle.serde_json.specs.View.{items_view, view}
 use Rattle.serde_json.specs.declared.value.Value.{Value}
 use Rattle.act_terms.proofs.Elements.{listed_again}
 use Rattle.act_portfolio.specs.Reading.{list_of}
-
-as_many : (ds : List Data) → items_len (items_of ds) ≡ length ds
-as_many [] = refl
-as_many (d ∷ ds) = ap suc (as_many ds)
-
-pub as_many_items : (vs : List Value) → items_len (items_view vs) ≡ length (map view vs)
-as_many_items vs = as_many (map view vs)
 
 of_items : (items : Items) (vs : List Value) → Some (items_view vs) ≡ Some items → list_of (array items) ≡ Ok (map view vs)
 of_items items vs is = let e : items_view vs ≡ items = cc in rw (← e) (ap Ok (listed_again (map view vs)))

@@ -1,5 +1,7 @@
 -- Refusals of a portfolio, and one step of reading after another. This profile's own.
-use Rattle.std.specs.Prelude.{ℕ, suc, List, codes, Option, Some, None, Result, Ok, Err}
+use Rattle.std.specs.Prelude.{ℕ, suc, List, [], codes, map, slice_get, slice_index, unwrap_or, Option, Some, None, Result, Ok, Err}
+use Rattle.std.specs.List.{join_with_byte}
+use Rattle.std.specs.Str.{byte}
 use Rattle.act_model.specs.declared.run.PlanFault.{PlanFault}
 use Rattle.act_model.specs.declared.run.PlanFault.TheVariants as plan
 use Rattle.act_profile.specs.Outcomes.{then_ok}
@@ -32,9 +34,9 @@ no_json = record { number = 10; place = 0; what = nothing }
 abbrev pub no_list : Refusal
 no_list = record { number = 11; place = 0; what = nothing }
 
--- the file has more contracts than there may be; the place is that of the first too many
-abbrev pub too_many_contracts : Refusal
-too_many_contracts = record { number = 16; place = 4097; what = nothing }
+-- the contract at a place from 0 is the first past the limit
+abbrev pub too_many_contracts : ℕ → Refusal
+too_many_contracts place = record { number = 16; place = suc place; what = nothing }
 
 -- a contract, by its place from 0, has the name of one before it
 abbrev pub repeated_id : ℕ → Refusal
@@ -43,6 +45,22 @@ repeated_id place = record { number = 17; place = suc place; what = codes "contr
 -- the references of a contract, by its place from 0, don't fit its kind
 abbrev pub bad_reference : ℕ → Refusal
 bad_reference place = record { number = 20; place = suc place; what = codes "contractStructure" }
+
+-- a contract, by its place from 0, refers to a contract by a name that none has
+abbrev pub unknown_contract : ℕ → List ℕ → Refusal
+unknown_contract place name = record { number = 21; place = suc place; what = name }
+
+-- contracts refer to one another in a cycle, which starts at the first of these places from 0; their names stand with spaces between
+abbrev pub in_cycle : List (List ℕ) → List ℕ → Refusal
+in_cycle ids cycle = record {
+  number = 22;
+  place = suc (slice_index cycle 0);
+  what = join_with_byte (byte " ") (map (λ c. unwrap_or (slice_get ids c) []) cycle);
+}
+
+-- a chain of more contracts than there may be starts at a contract, by its place from 0
+abbrev pub too_deep : ℕ → Refusal
+too_deep place = record { number = 23; place = suc place; what = nothing }
 
 -- a term of the contract at a place from 0 is refused. Want of memory is no refusal, and no definition gives it
 abbrev pub refused_terms : ℕ → TermsFault → Refusal

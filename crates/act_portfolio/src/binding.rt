@@ -1,97 +1,278 @@
-//! What contracts refer to, bound to their terms.
-ghost use Rattle.std.specs.Prelude.{◌≡◌, ◌^◌, ◌≤◌, None, Err, IfOk, IfErr, IfSome, OnOk, length, map};
-ghost use Rattle.act_portfolio.specs.Binding.{bound, bound_to, first_unfit, fits, fitting, underlying_in, underlying_of, with_underlying};
-ghost use Rattle.act_portfolio.specs.Refusal.{refusal_of};
+//! What references bind in the terms of contracts.
+ghost use Rattle.std.specs.Prelude.{◌≡◌, ◌++◌, ◌<◌, ◌≤◌, ◌^◌, Ok, Some, [], IfOk, OnOk, IfSome, length, map, option_map, slice_get};
+ghost use Rattle.std.specs.List.{cons_option, enumerate_from, filter_map, zip};
+ghost use Rattle.act_model.specs.Kind.{loan_of};
+ghost use Rattle.act_profile.specs.Built.{IsBuilt};
+ghost use Rattle.act_profile.specs.Plan.{plan_of};
+ghost use Rattle.act_portfolio.specs.Binding.{bind, bound, bound_kind, covered_at, covered_of, covered_with, day_count_of};
+ghost use Rattle.act_portfolio.specs.Known.{HavePlans};
+ghost use Rattle.act_portfolio.specs.Links.{covering_of, linked};
 
-use crate::fault::{PortfolioFault, refused};
-use act_model::{Futur, Kind, Optns, Terms};
+use crate::links::{Legs, Listing, capped_of, covering_of, legs_of, underlying_of};
+use act_contract::{maturity, start};
+use act_date::DayCount;
+use act_model::{
+    Capfl, Cec, Ceg, Covered, Futur, Kind, MOST_BYTES, Optns, Plan, State, Stop, Swaps, Terms,
+};
 use act_num::NoMemory;
-use act_terms::{NamedTerms, Reference, ReferenceRole, Referred};
+use act_terms::{NamedTerms, Reference, ReferenceRole};
 use std::alloc::Global;
 
-/// Nothing where the references of each contract fit its kind.
-pub(crate) fn references_fit(alloc: Global, named: &[NamedTerms]) -> Result<(), PortfolioFault>
-    requires few { length named.now ≤ 2 ^ 28 }
-    ensures fit { OnOk result (first_unfit named.now ≡ None) }
-    ensures refused { IfErr result (λ fault. IfSome (refusal_of fault) (λ refusal.
-        fitting (first_unfit named.now) named.now ≡ Err refusal)) }
+/// What the references of a contract bind in its terms.
+#[derive(Drop)]
+pub(crate) enum Binding {
+    /// Nothing.
+    Nothing,
+    /// The legs of a swap.
+    Legs(Legs),
+    /// The underlying of a cap and floor, and its shadow.
+    Capped {
+        underlying: u32,
+        shadow: u32,
+    },
+    /// The market object of an option or a future.
+    Underlying(u32),
+    /// What a guarantee covers.
+    Covered(Vec<Covered>),
+    /// What collateral covers, and the codes of what covers it.
+    Secured {
+        covered: Vec<Covered>,
+        covering: Vec<u32>,
+    },
+}
+
+/// What the references of each contract bind. A guarantee is bound to what the terms and plans of those say that it covers.
+pub(crate) fn bindings(
+    alloc: Global,
+    listing: &Listing,
+    named: &[NamedTerms],
+    numbers: &[u32],
+    plans: &[Plan],
+) -> Result<Vec<Binding>, NoMemory>
+    requires planned { HavePlans listing.now.terms plans.now }
+    requires few { length listing.now.terms ≤ 2 ^ 28 }
+    requires numbers { length numbers.now ≡ length named.now }
+    ensures count { IfOk result (λ bindings. length bindings.items ≡ length named.now) }
+    ensures bound { IfOk result (λ bindings. map (λ b. bind b.1 b.0.terms.kind) (zip named.now bindings.items)
+        ≡ map (λ c. (bound listing.now plans.now c).kind) (zip named.now numbers.now)) }
 {
+    let mut bindings = Vec::with_capacity(alloc, named.len())?;
     for (place, contract) in named.iter().enumerate() {
-        if !fits(contract) {
-            return Err(refused(alloc, 20, place as u32 + 1, "contractStructure"));
+        let binding = binding_of(alloc, listing, plans, contract, numbers[place])?;
+        bindings.push(binding)?;
+    }
+    Ok(bindings)
+}
+
+/// What the references of a contract bind, where the next shadow has that number.
+fn binding_of(
+    alloc: Global,
+    listing: &Listing,
+    plans: &[Plan],
+    contract: &NamedTerms,
+    number: u32,
+) -> Result<Binding, NoMemory>
+    requires planned { HavePlans listing.now.terms plans.now }
+    requires few { length listing.now.terms ≤ 2 ^ 28 }
+    ensures { IfOk result (λ binding. bind binding contract.now.terms.kind
+        ≡ bound_kind listing.now plans.now number contract.now.references contract.now.terms.kind) }
+{
+    let references = &contract.references;
+    match &contract.terms.kind {
+        Kind::SWAPS(_) => match legs_of(listing, references) {
+            Some(two) => Ok(Binding::Legs(two)),
+            None => Ok(Binding::Nothing),
+        },
+        Kind::CAPFL(_) => Ok(Binding::Capped {
+            underlying: capped_of(listing, references).unwrap_or(0),
+            shadow: number,
+        }),
+        Kind::OPTNS(_) | Kind::FUTUR(_) => {
+            Ok(Binding::Underlying(underlying_of(references).unwrap_or(0)))
+        }
+        Kind::CEG(_) => {
+            let covered = covered_of(alloc, listing, plans, references)?;
+            Ok(Binding::Covered(covered))
+        }
+        Kind::CEC(_) => {
+            let covered = covered_of(alloc, listing, plans, references)?;
+            let covering = all_covering(alloc, listing, references)?;
+            Ok(Binding::Secured { covered, covering })
+        }
+        _ => Ok(Binding::Nothing),
+    }
+}
+
+/// The contracts that references cover, in their order.
+fn covered_of(
+    alloc: Global,
+    listing: &Listing,
+    plans: &[Plan],
+    references: &[Reference],
+) -> Result<Vec<Covered>, NoMemory>
+    requires planned { HavePlans listing.now.terms plans.now }
+    requires few { length listing.now.terms ≤ 2 ^ 28 }
+    ensures { IfOk result (λ covered. covered.items ≡ covered_of listing.now plans.now references.now) }
+{
+    // A file has not as many bytes.
+    if references.len() > MOST_BYTES as usize {
+        return Err(NoMemory);
+    }
+    let mut covered = Vec::new(alloc);
+    let mut child = 0;
+    for reference in references {
+        if let Some(contract) = listing.contract_of(&reference.object) {
+            add_covered(
+                listing,
+                plans,
+                reference.role,
+                contract,
+                child,
+                &mut covered,
+            )?;
+            child += 1;
         }
     }
+    Ok(covered)
+}
+
+/// Adds a contract, where a reference of that role covers it.
+fn add_covered(
+    listing: &Listing,
+    plans: &[Plan],
+    role: ReferenceRole,
+    contract: u32,
+    child: u32,
+    covered: &mut Vec<Covered>,
+) -> Result<(), NoMemory>
+    requires planned { HavePlans listing.now.terms plans.now }
+    ensures { OnOk result (covered.new.items
+        ≡ covered.old.items ++ cons_option (covered_at listing.now plans.now (child, (role, contract))) []) }
+{
+    if role != ReferenceRole::COVE {
+        return Ok(());
+    }
+    let Some(terms) = listing.terms_at(contract) else {
+        return Ok(());
+    };
+    let Some(plan) = plan_at(plans, contract) else {
+        return Ok(());
+    };
+    let start: Result<State, Stop> = start(terms, plan);
+    covered.push(covered_with(contract, child, terms, start))?;
     Ok(())
 }
 
-/// Whether the references of a contract fit its kind: those of an option or a future give an underlying.
-fn fits(contract: &NamedTerms) -> bool
-    ensures { result ≡ fits contract.now }
+/// The plan of a contract.
+fn plan_at(plans: &[Plan], contract: u32) -> Option<&Plan>
+    ensures { option_map (λ plan. plan.now) result ≡ slice_get plans.now contract }
 {
-    match &contract.terms.kind {
-        Kind::OPTNS(_) | Kind::FUTUR(_) => underlying_of(&contract.references).is_some(),
-        _ => true,
+    plans.get(contract as usize)
+}
+
+/// A covered contract by its number, its place among the children, and its starting state.
+fn covered_with(contract: u32, child: u32, terms: &Terms, start: Result<State, Stop>) -> Covered
+    requires built { IsBuilt terms.now.kind }
+    ensures { result ≡ covered_with contract child terms.now start }
+{
+    Covered {
+        contract,
+        child,
+        kind: terms.kind.contract_type(),
+        count: day_count_of(&terms.kind),
+        calendar: terms.common.calendar,
+        maturity: maturity(terms),
+        market: terms.common.market_object_code,
+        start,
     }
 }
 
-/// The underlying that references give: the market object of the one reference that there is.
-fn underlying_of(references: &[Reference]) -> Option<u32>
-    ensures { result ≡ underlying_of references.now }
+/// The day count of a kind that has one.
+fn day_count_of(kind: &Kind) -> Option<DayCount>
+    ensures { result ≡ day_count_of (loan_of kind.now) kind.now }
 {
-    match references {
-        [reference] => underlying_in(reference.role, reference.object),
-        _ => None,
+    match kind {
+        Kind::SWPPV(swppv) => Some(swppv.day_count_convention),
+        _ => match kind.loan() {
+            Some(loan) => Some(loan.day_count_convention),
+            None => None,
+        },
     }
 }
 
-/// The code of a market object that is the underlying.
-fn underlying_in(role: ReferenceRole, object: Referred) -> Option<u32>
-    ensures { result ≡ underlying_in role object }
+/// The codes of what covers, in the order of the references.
+fn all_covering(
+    alloc: Global,
+    listing: &Listing,
+    references: &[Reference],
+) -> Result<Vec<u32>, NoMemory>
+    ensures { IfOk result (λ covering. covering.items ≡ filter_map (covering_of listing.now) references.now) }
 {
-    match (role, object) {
-        (ReferenceRole::UDL, Referred::Market(code)) => Some(code),
-        _ => None,
+    let mut covering = Vec::new(alloc);
+    for reference in references {
+        if let Some(code) = covering_of(listing, reference) {
+            covering.push(code)?;
+        }
     }
+    Ok(covering)
 }
 
-/// The terms of contracts, without their names, bound to what they refer to.
-pub(crate) fn bound_terms(alloc: Global, named: Vec<NamedTerms>) -> Result<Vec<Terms>, NoMemory>
-    ensures { IfOk result (λ terms. terms.items ≡ map bound named.items) }
+/// The terms of contracts with what their references bind, and behind them those of the shadows.
+pub(crate) fn bound_terms(
+    alloc: Global,
+    named: Vec<NamedTerms>,
+    bindings: Vec<Binding>,
+    shadows: Vec<Terms>,
+) -> Result<Vec<Terms>, NoMemory>
+    requires bindings { length bindings.items ≡ length named.items }
+    ensures { IfOk result (λ terms. terms.items
+        ≡ map (λ b. record { common = b.0.terms.common; kind = bind b.1 b.0.terms.kind }) (zip named.items bindings.items) ++ shadows.items) }
 {
-    let mut terms = Vec::new(alloc);
-    for contract in named {
-        let underlying = underlying_of(&contract.references);
-        terms.push(bound_to(contract.terms, underlying))?;
+    let mut terms = Vec::with_capacity(alloc, named.len())?;
+    for (contract, binding) in named.into_iter().zip(bindings) {
+        terms.push(Terms {
+            common: contract.terms.common,
+            kind: bind(binding, contract.terms.kind),
+        })?;
+    }
+    for shadow in shadows {
+        terms.push(shadow)?;
     }
     Ok(terms)
 }
 
-/// Terms bound to an underlying.
-fn bound_to(terms: Terms, underlying: Option<u32>) -> Terms
-    ensures { result ≡ bound_to terms underlying }
+/// The terms of a kind with what its references bind.
+fn bind(binding: Binding, kind: Kind) -> Kind
+    ensures { result ≡ bind binding kind }
 {
-    match underlying {
-        Some(code) => Terms {
-            common: terms.common,
-            kind: with_underlying(terms.kind, code),
-        },
-        None => terms,
-    }
-}
-
-/// The terms of a kind with their underlying, where they have one.
-fn with_underlying(kind: Kind, code: u32) -> Kind
-    ensures { result ≡ with_underlying kind code }
-{
-    match kind {
-        Kind::OPTNS(optns) => Kind::OPTNS(Optns {
+    match (binding, kind) {
+        (Binding::Legs(two), Kind::SWAPS(swaps)) => Kind::SWAPS(Swaps {
+            first: two.first,
+            second: two.second,
+            swapped: two.swapped,
+            ..swaps
+        }),
+        (Binding::Capped { underlying, shadow }, Kind::CAPFL(capfl)) => Kind::CAPFL(Capfl {
+            underlying,
+            shadow,
+            ..capfl
+        }),
+        (Binding::Underlying(code), Kind::OPTNS(optns)) => Kind::OPTNS(Optns {
             underlying: code,
             ..optns
         }),
-        Kind::FUTUR(futur) => Kind::FUTUR(Futur {
+        (Binding::Underlying(code), Kind::FUTUR(futur)) => Kind::FUTUR(Futur {
             underlying: code,
             ..futur
         }),
-        other => other,
+        (Binding::Covered(covered), Kind::CEG(ceg)) => Kind::CEG(Ceg { covered, ..ceg }),
+        (Binding::Secured { covered, covering }, Kind::CEC(cec)) => Kind::CEC(Cec {
+            guarantee: Ceg {
+                covered,
+                ..cec.guarantee
+            },
+            covering,
+        }),
+        (_, kind) => kind,
     }
 }

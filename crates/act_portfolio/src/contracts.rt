@@ -14,21 +14,23 @@ use act_terms::{NamedTerms, read_contract};
 use serde_json::Value;
 use std::alloc::Global;
 
-/// The names, the terms and the references of contracts, in their order. What the terms name is added to the names.
+/// The names, the terms and the references of contracts, in their order. What the terms and the references name is added to
+/// the names.
 pub(crate) fn read_contracts(
     alloc: Global,
-    contracts: &[Value],
+    contracts: &[&Value],
     names: &mut Names,
 ) -> Result<Vec<NamedTerms>, PortfolioFault>
     requires few { length contracts.now ≤ 2 ^ 28 }
     requires fresh { names.old ≡ no_names }
-    ensures read { IfOk result (λ named. contracts_from zero no_names (map view contracts.now) ≡ Ok (named.items, names.new)) }
+    ensures read { IfOk result (λ named.
+        contracts_from zero no_names (map (λ c. view c.now) contracts.now) ≡ Ok (named.items, names.new)) }
     ensures refused { IfErr result (λ fault. IfSome (refusal_of fault) (λ refusal.
-        contracts_from zero no_names (map view contracts.now) ≡ Err refusal)) }
+        contracts_from zero no_names (map (λ c. view c.now) contracts.now) ≡ Err refusal)) }
     ensures contracts { IfOk result (λ named. All IsContract named.items) }
     ensures unnamed { OnOk result (names.new.contracts ≡ []) }
 {
-    let mut named = Vec::new(alloc);
+    let mut named = Vec::with_capacity(alloc, contracts.len())?;
     for (number, contract) in contracts.iter().enumerate() {
         let next = next_contract(alloc, contract, number as u32, names)?;
         named.push(next)?;

@@ -6,13 +6,13 @@ ghost use Rattle.act_portfolio.specs.declared.fault.PortfolioFault.TheVariants a
 use act_model::PlanFault;
 use act_num::NoMemory;
 use act_terms::{TermFault, TermsFault};
-use std::alloc::{AllocFailed, Global};
+use std::alloc::{AllocError, AllocFailed, Global};
 
 /// Why there is no portfolio.
 #[derive(Drop)]
 pub enum PortfolioFault {
-    /// The file is refused, by the first of these that it has. The place is that of the contract, from 1, or 0 where the
-    /// number is 10 or the file is no list.
+    /// The file is refused, by the first of these that it has. The place is that of the contract in portfolio order, from 1,
+    /// or 0 where the number is 10 or the file is no list.
     ///
     /// | Number | Where | What |
     /// |---|---|---|
@@ -22,21 +22,23 @@ pub enum PortfolioFault {
     /// | 13 | a term has another form or breaks its bound; an element of a structure has no such type or role | the term |
     /// | 14 | a term that names something, or an element of a structure, has another form | the term |
     /// | 15 | no contract has this type | `contractType` |
-    /// | 24 | contracts of this type aren't built yet, where 15 comes; or a structure refers to a contract, behind the structure | `contractType` or `contractStructure` |
-    /// | 16 | there are more than 4,096 contracts; the place is 4097 | `-` |
+    /// | 16 | there are more than 4,096 contracts, where a cap and floor counts as two; the place is that of the first past the limit | `-` |
     /// | 17 | an earlier contract has the same name | `contractID` |
+    /// | 21 | a contract refers to another by a name that none has | the name |
     /// | 20 | the references don't fit the kind | `contractStructure` |
-    /// | 18 | a contract has more than 4,096 scheduled events | `-` |
-    /// | 19 | a date of a contract leaves 1900 to 2299 | `-` |
+    /// | 22 | contracts refer to one another in a cycle; the place is that of its first contract | its names, with spaces between |
+    /// | 23 | a chain of more than 16 contracts, each of which refers to the next, starts at the contract | `-` |
+    /// | 18 | a contract has more than 4,096 scheduled events, or redemptions | `-` |
+    /// | 19 | a date of a contract leaves 1900 to 2299, or a derived maturity isn't after the initial exchange | `-` |
     ///
-    /// Terms come contract by contract, in the order of this profile's tables; then 16; then 17; then 20 contract by contract;
-    /// then 18 and 19 contract by contract, in the order of the types of events.
+    /// Terms come contract by contract, in the order of this profile's tables, the structure last; then 16; then 17; then 21
+    /// and 20 contract by contract; then 22; then 23; then 18 and 19 contract by contract, in the order of the types of events.
     Refused {
-        /// Its number, 10 to 24.
+        /// Its number, 10 to 23.
         number: u8,
         /// The contract's place.
         place: u32,
-        /// The term or `-`.
+        /// The term, the name, the names or `-`.
         what: Vec<u8>,
     },
     /// Memory ran out.
@@ -47,6 +49,14 @@ impl<T: Drop> From<AllocFailed<T>> for PortfolioFault {
     ghost from_gives = { λ _ fault. fault ≡ faults.NoMemory };
 
     fn from(_error: AllocFailed<T>) -> PortfolioFault {
+        PortfolioFault::NoMemory
+    }
+}
+
+impl From<AllocError> for PortfolioFault {
+    ghost from_gives = { λ _ fault. fault ≡ faults.NoMemory };
+
+    fn from(_error: AllocError) -> PortfolioFault {
         PortfolioFault::NoMemory
     }
 }

@@ -2,13 +2,20 @@
 #![tactic(auto)]
 
 mod binding;
-mod children;
+mod codes;
+mod cones;
 mod contracts;
+mod counts;
 mod fault;
+mod graph;
+mod limit;
+mod links;
 mod names;
+mod order;
 mod plans;
 mod portfolio;
 mod reading;
+mod shadows;
 
 pub use fault::PortfolioFault;
 pub use portfolio::Portfolio;

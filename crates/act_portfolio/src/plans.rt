@@ -1,5 +1,5 @@
 //! The plans of contracts, and the names that their types don't use.
-ghost use Rattle.std.specs.Prelude.{◌≡◌, ◌<◌, ◌≤◌, ◌^◌, Ok, Err, IfOk, IfErr, IfSome, length, map, string_bytes, zero};
+ghost use Rattle.std.specs.Prelude.{◌≡◌, ◌++◌, ◌<◌, ◌≤◌, ◌^◌, Ok, Err, IfOk, IfErr, IfSome, length, map, string_bytes, zero};
 ghost use Rattle.std.specs.List.{All};
 ghost use Rattle.serde_json.specs.View.{view};
 ghost use Rattle.act_profile.specs.Plan.{plan_of};
@@ -15,14 +15,33 @@ use act_terms::{NamedTerms, unused_names};
 use serde_json::Value;
 use std::alloc::Global;
 
-/// The plans of contracts, in their order.
-pub(crate) fn plan_contracts(alloc: Global, terms: &[Terms]) -> Result<Vec<Plan>, PortfolioFault>
-    requires built { All (λ t. IsBuilt t.kind) terms.now }
-    requires few { length terms.now ≤ 2 ^ 28 }
-    ensures plans { IfOk result (λ plans. plans_from zero terms.now ≡ Ok plans.items) }
-    ensures refused { IfErr result (λ fault. IfSome (refusal_of fault) (λ refusal. plans_from zero terms.now ≡ Err refusal)) }
+/// The terms of contracts, and behind them those of their shadows.
+pub(crate) fn all_terms<'a>(
+    alloc: Global,
+    named: &'a [NamedTerms],
+    shadows: &'a [Terms],
+) -> Result<Vec<&'a Terms>, NoMemory>
+    ensures { IfOk result (λ terms. map (λ t. t.now) terms.items ≡ map (λ c. c.terms) named.now ++ shadows.now) }
 {
-    let mut plans = Vec::new(alloc);
+    let mut terms = Vec::with_capacity(alloc, named.len())?;
+    for contract in named {
+        terms.push(&contract.terms)?;
+    }
+    for shadow in shadows {
+        terms.push(shadow)?;
+    }
+    Ok(terms)
+}
+
+/// The plans of contracts, in their order.
+pub(crate) fn plan_contracts(alloc: Global, terms: &[&Terms]) -> Result<Vec<Plan>, PortfolioFault>
+    requires built { All (λ t. IsBuilt t.now.kind) terms.now }
+    requires few { length terms.now ≤ 2 ^ 28 }
+    ensures plans { IfOk result (λ plans. plans_from zero (map (λ t. t.now) terms.now) ≡ Ok plans.items) }
+    ensures refused { IfErr result (λ fault. IfSome (refusal_of fault) (λ refusal.
+        plans_from zero (map (λ t. t.now) terms.now) ≡ Err refusal)) }
+{
+    let mut plans = Vec::with_capacity(alloc, terms.len())?;
     for (place, contract) in terms.iter().enumerate() {
         let plan = next_plan(alloc, contract, place as u32)?;
         plans.push(plan)?;
@@ -47,16 +66,17 @@ fn next_plan(alloc: Global, terms: &Terms, place: u32) -> Result<Plan, Portfolio
 /// For each contract of a list that is read, the names of its object that aren't terms of its type.
 pub(crate) fn unused_lists(
     alloc: Global,
-    contracts: &[Value],
+    contracts: &[&Value],
     named: &[NamedTerms],
 ) -> Result<Vec<Vec<String>>, NoMemory>
     requires all { length named.now ≡ length contracts.now }
-    ensures { IfOk result (λ unused. map (λ u. map string_bytes u.items) unused.items ≡ unused_lists named.now (map view contracts.now)) }
+    ensures { IfOk result (λ unused. map (λ u. map string_bytes u.items) unused.items
+        ≡ unused_lists named.now (map (λ c. view c.now) contracts.now)) }
 {
-    let mut lists = Vec::new(alloc);
+    let mut lists = Vec::with_capacity(alloc, named.len())?;
     for (place, contract) in named.iter().enumerate() {
         let contract_type = contract.terms.kind.contract_type();
-        let unused = unused_names(alloc, contract_type, &contracts[place])?;
+        let unused = unused_names(alloc, contract_type, contracts[place])?;
         lists.push(unused)?;
     }
     Ok(lists)

@@ -1,48 +1,58 @@
 //! A portfolio that was accepted.
 ghost use Rattle.std.specs.Prelude.{◌≡◌, ◌^◌, ◌<◌, ◌≤◌, ℕ, Some, Ok, IfOk, IfErr, IfSome, length, map, slice_get, string_bytes};
+ghost use Rattle.std.specs.List.{All};
 ghost use Rattle.act_profile.specs.Built.{IsBuilt};
 ghost use Rattle.act_model.specs.declared.terms.Terms.{Terms};
 ghost use Rattle.act_profile.specs.Plan.{plan_of};
+ghost use Rattle.act_refs.specs.Ordered.{order_of};
+ghost use Rattle.act_portfolio.specs.Cones.{most_counted, most_weight, reads_of};
 ghost use Rattle.act_portfolio.specs.Counts.{cone_sum, scheduled_count};
 ghost use Rattle.act_portfolio.specs.Reading.{portfolio_of};
 ghost use Rattle.act_portfolio.specs.Refusal.{refusal_of};
 
+use crate::cones::Cones;
 use crate::fault::PortfolioFault;
 use crate::reading::read_portfolio;
-use act_model::{MOST_BYTES, MOST_CONTRACTS, MOST_DATES, Names, Plan, Terms};
+use act_model::{MOST_BYTES, MOST_CONTRACTS, Names, Plan, Reads, Terms};
 use act_num::NoMemory;
 use std::alloc::Global;
 use std::marker::Model;
 
-/// The contracts of an accepted portfolio, numbered from 0 in portfolio order, with the plan of each, the contracts that it
-/// refers to, what they name, and the names of each object that the contract's kind doesn't use.
+/// The contracts of an accepted portfolio, numbered from 0: those of the file in portfolio order, an inline contract behind
+/// the one that it stands in, and behind them all the shadows of caps and floors. With each its plan, the contracts that its
+/// run goes over, and what its evaluation weighs and reads.
 #[derive(Drop)]
 pub struct Portfolio {
     pub(crate) names: Names,
     pub(crate) terms: Vec<Terms>,
     pub(crate) plans: Vec<Plan>,
     pub(crate) children: Vec<Vec<u32>>,
+    pub(crate) order: Vec<u32>,
+    pub(crate) ranks: Vec<u32>,
+    pub(crate) cones: Cones,
     pub(crate) unused: Vec<Vec<String>>,
 }
 
 impl Model for Portfolio {
     ghost use Rattle.std.specs.Prelude.{map, string_bytes};
-    ghost use Rattle.act_portfolio.specs.Reading.{Accepted, IsAccepted};
+    ghost use Rattle.act_portfolio.specs.Known.{IsPortfolio};
+    ghost use Rattle.act_portfolio.specs.Reading.{Accepted};
 
     ghost Value = { Accepted };
 
-    ghost view = { λ p. record { names = p.names; contracts = record { terms = p.terms.items; plans = p.plans.items; children = map (λ c. c.items) p.children.items }; unused = map (λ u. map string_bytes u.items) p.unused.items } };
+    ghost view = { λ p. record { names = p.names; contracts = record { terms = p.terms.items; plans = p.plans.items; children = map (λ c. c.items) p.children.items }; order = p.order.items; unused = map (λ u. map string_bytes u.items) p.unused.items } };
 
-    ghost invariant = { λ p. IsAccepted p.names p.terms.items p.plans.items (map (λ c. c.items) p.children.items) (map (λ u. map string_bytes u.items) p.unused.items) };
+    ghost invariant = { λ p. IsPortfolio (record { names = p.names; contracts = record { terms = p.terms.items; plans = p.plans.items; children = map (λ c. c.items) p.children.items }; order = p.order.items; unused = map (λ u. map string_bytes u.items) p.unused.items }) p.ranks.items p.cones.counts.items p.cones.weights.items p.cones.reads.items };
 }
 
 impl Portfolio {
     /// The portfolio that the bytes of a file are, or why they are refused: by the first refusal in the order that
     /// [`PortfolioFault`] has.
     ///
-    /// The file is a JSON list of one object for each contract, which gives the contract's terms under the names of the
-    /// ACTUS data dictionary, numbers bare or in quotes. A value `null` or `""` is not given. Names that the contract's
-    /// kind doesn't use are passed over, and kept as unused.
+    /// The file is a JSON list of objects, one for each contract; a contract may also stand inline in the structure of
+    /// another. An object gives the contract's terms under the names of the ACTUS data dictionary, numbers bare or in
+    /// quotes. A value `null` or `""` is not given. Names that the contract's kind doesn't use are passed over, and kept as
+    /// unused.
     pub fn read(alloc: Global, bytes: &[u8]) -> Result<Portfolio, PortfolioFault>
         requires size { length bytes.now ≤ MOST_BYTES }
         ensures accepted { IfOk result (λ portfolio. portfolio_of bytes.now ≡ Ok portfolio) }
@@ -69,47 +79,77 @@ impl Portfolio {
         &self.plans[contract as usize]
     }
 
-    /// The contracts that a contract refers to, in the order of its structure.
+    /// The contracts that a contract's run goes over: those that it refers to in the order of its structure, and behind the
+    /// underlying of a cap and floor its shadow.
     pub fn children(&self, contract: u32) -> &[u32]
         requires contract { contract < length self.now.contracts.terms }
-        ensures { slice_get self.now.contracts.children contract ≡ Some result.now }
+        ensures children { slice_get self.now.contracts.children contract ≡ Some result.now }
+        ensures numbered { All (λ child. child < length self.now.contracts.terms) result.now }
+        ensures ordered { order_of self.now.contracts.children ≡ Ok self.now.order }
+        ensures count { length self.now.contracts.children ≡ length self.now.contracts.terms }
     {
         &self.children[contract as usize]
     }
 
-    /// How many contracts have a name: all that the file has.
+    /// The order in which contracts are evaluated: children first, and those of one depth by number.
+    pub fn order(&self) -> &[u32]
+        ensures order { result.now ≡ self.now.order }
+        ensures ordered { order_of self.now.contracts.children ≡ Ok self.now.order }
+        ensures numbered { All (λ contract. contract < length self.now.contracts.terms) result.now }
+        ensures count { length self.now.contracts.children ≡ length self.now.contracts.terms }
+    {
+        &self.order
+    }
+
+    /// The place of a contract in the order, from 0.
+    pub fn rank(&self, contract: u32) -> u32
+        requires contract { contract < length self.now.contracts.terms }
+        ensures { slice_get self.now.order result ≡ Some contract }
+    {
+        self.ranks[contract as usize]
+    }
+
+    /// How many contracts have a name: all that the file has, and none of the shadows.
     pub fn named(&self) -> u32
         ensures named { result ≡ length self.now.names.contracts }
-        ensures terms { result ≡ length self.now.contracts.terms }
+        ensures within { result ≤ length self.now.contracts.terms }
     {
-        self.terms.len() as u32
+        self.unused.len() as u32
     }
 
     /// The names of a contract's object that its kind doesn't use, in byte order.
     pub fn unused(&self, contract: u32) -> &[String]
-        requires contract { contract < length self.now.contracts.terms }
+        requires contract { contract < length self.now.names.contracts }
         ensures { slice_get self.now.unused contract ≡ Some (map string_bytes result.now) }
     {
         &self.unused[contract as usize]
     }
 
-    /// How many scheduled events a contract counts. It takes no memory.
+    /// How many scheduled events a contract counts, with those of a swap's legs and a cap's or floor's underlying. It takes no
+    /// memory.
     pub fn scheduled_count(&self, contract: u32) -> u64
         requires contract { contract < length self.now.contracts.terms }
         ensures count { result ≡ scheduled_count self.now.contracts contract }
-        ensures within { result ≤ MOST_DATES }
+        ensures within { result ≤ most_counted }
     {
-        self.plans[contract as usize].events.len() as u64
+        self.cones.counts[contract as usize]
     }
 
     /// The cone sum of a contract: the sum, over the contract and all that it reaches, of the scheduled count and one.
     pub fn weight(&self, contract: u32) -> u64
         requires contract { contract < length self.now.contracts.terms }
         ensures weight { result ≡ cone_sum self.now.contracts contract }
-        ensures within { result ≤ 4_097 }
+        ensures within { result ≤ most_weight }
     {
-        let _ = &self.terms;
-        self.scheduled_count(contract) + 1
+        self.cones.weights[contract as usize]
+    }
+
+    /// What the evaluation of a contract reads, with that of all contracts that it reaches.
+    pub fn reads(&self, contract: u32) -> &Reads
+        requires contract { contract < length self.now.contracts.terms }
+        ensures { result.now ≡ reads_of self.now.contracts contract }
+    {
+        &self.cones.reads[contract as usize]
     }
 
     /// A copy of the names of the contracts, and of what they name.

@@ -1,37 +1,29 @@
 //! Reading a portfolio file.
-ghost use Rattle.std.specs.Prelude.{◌≡◌, ◌*◌, ◌+◌, ◌^◌, ◌≤◌, [], Ok, Err, Some, IfOk, IfErr, IfSome, OnOk, length, map, string_bytes};
+ghost use Rattle.std.specs.Prelude.{◌≡◌, ◌^◌, ◌≤◌, [], None, Ok, Err, IfOk, IfErr, IfSome, OnOk, length, map, string_bytes, zero};
 ghost use Rattle.std.specs.List.{All};
-ghost use Rattle.std.specs.Option.{ForSome};
-ghost use Rattle.serde_json.specs.Events.{items_len};
-ghost use Rattle.serde_json.specs.Find.{as_array};
-ghost use Rattle.serde_json.specs.View.{items_view, view};
+ghost use Rattle.serde_json.specs.View.{view};
 ghost use Rattle.act_json.specs.Reading.{json_of};
-ghost use Rattle.act_model.specs.Names.{no_names};
-ghost use Rattle.act_portfolio.specs.Known.{IsContract, checked, together};
-ghost use Rattle.act_portfolio.specs.Reading.{IsAccepted, list_of, portfolio_listed, portfolio_of, within_limit};
+ghost use Rattle.act_portfolio.specs.Known.{IsContract, checked, count_with_shadows};
+ghost use Rattle.act_portfolio.specs.Links.{first_unfit};
+ghost use Rattle.act_portfolio.specs.Reading.{list_of, portfolio_listed, portfolio_of};
 ghost use Rattle.act_portfolio.specs.Refusal.{no_json, refusal_of, refusing};
 
-use crate::binding::{bound_terms, references_fit};
-use crate::children::child_lists;
 use crate::contracts::read_contracts;
 use crate::fault::{PortfolioFault, refused};
+use crate::graph::{bound_portfolio, graph_of};
+use crate::limit::within_limit;
+use crate::links::{Listing, references_fit};
 use crate::names::name_contracts;
-use crate::plans::{plan_contracts, unused_lists};
+use crate::plans::unused_lists;
 use crate::portfolio::Portfolio;
 use act_json::{JsonFault, read};
-use act_model::{MOST_BYTES, MOST_CONTRACTS, Names, Plan, Terms};
-use act_terms::NamedTerms;
+use act_model::{MOST_BYTES, MOST_CONTRACTS, Names};
+use act_terms::{NamedTerms, in_portfolio_order};
 use serde_json::Value;
 use std::alloc::Global;
 
-/// The terms of contracts, their plans, the contracts that they refer to, and the names that their types don't use.
-#[derive(Drop)]
-struct Contracts {
-    terms: Vec<Terms>,
-    plans: Vec<Plan>,
-    children: Vec<Vec<u32>>,
-    unused: Vec<Vec<String>>,
-}
+/// More contracts than a file of 64 MiB can have.
+const TOO_MANY: usize = 268_435_456;
 
 /// The portfolio that the bytes of a file are.
 #[tactic(auto, unfolding(crate::specs::Reading::portfolio_of))]
@@ -41,14 +33,14 @@ pub(crate) fn read_portfolio(alloc: Global, bytes: &[u8]) -> Result<Portfolio, P
     ensures refused { IfErr result (λ fault. IfSome (refusal_of fault) (λ refusal. portfolio_of bytes.now ≡ Err refusal)) }
 {
     let value = json(alloc, bytes)?;
-    let contracts = list(alloc, &value)?;
-    portfolio_listed(alloc, contracts)
+    let listed = list(alloc, &value)?;
+    let contracts = in_portfolio_order(alloc, listed)?;
+    portfolio_listed(alloc, &contracts)
 }
 
 /// The JSON value of the bytes.
 fn json(alloc: Global, bytes: &[u8]) -> Result<Value, PortfolioFault>
     ensures value { IfOk result (λ value. json_of bytes.now ≡ Ok (view value)) }
-    ensures few { IfOk result (λ value. ForSome (as_array (view value)) (λ items. items_len items ≤ 3 * length bytes.now + 1)) }
     ensures refused { IfErr result (λ fault. IfSome (refusal_of fault) (λ refusal.
         refusing (λ fault. no_json) (json_of bytes.now) ≡ Err refusal)) }
 {
@@ -62,7 +54,6 @@ fn json(alloc: Global, bytes: &[u8]) -> Result<Value, PortfolioFault>
 /// The list that a value is.
 fn list(alloc: Global, value: &Value) -> Result<&[Value], PortfolioFault>
     ensures list { IfOk result (λ contracts. list_of (view value.now) ≡ Ok (map view contracts.now)) }
-    ensures items { IfOk result (λ contracts. as_array (view value.now) ≡ Some (items_view contracts.now)) }
     ensures refused { IfErr result (λ fault. IfSome (refusal_of fault) (λ refusal. list_of (view value.now) ≡ Err refusal)) }
 {
     match value.as_array() {
@@ -71,89 +62,36 @@ fn list(alloc: Global, value: &Value) -> Result<&[Value], PortfolioFault>
     }
 }
 
-/// The portfolio of a list of contracts.
-fn portfolio_listed(alloc: Global, contracts: &[Value]) -> Result<Portfolio, PortfolioFault>
-    requires few { length contracts.now ≤ 2 ^ 28 }
-    ensures accepted { IfOk result (λ portfolio. portfolio_listed (map view contracts.now) ≡ Ok portfolio) }
+/// The portfolio of contracts in portfolio order.
+fn portfolio_listed(alloc: Global, contracts: &[&Value]) -> Result<Portfolio, PortfolioFault>
+    ensures accepted { IfOk result (λ portfolio. portfolio_listed (map (λ c. view c.now) contracts.now) ≡ Ok portfolio) }
     ensures refused { IfErr result (λ fault. IfSome (refusal_of fault) (λ refusal.
-        portfolio_listed (map view contracts.now) ≡ Err refusal)) }
+        portfolio_listed (map (λ c. view c.now) contracts.now) ≡ Err refusal)) }
 {
+    if contracts.len() > TOO_MANY {
+        return Err(PortfolioFault::NoMemory);
+    }
     let mut names = Names::new(alloc);
-    let Contracts {
-        terms,
-        plans,
-        children,
-        unused,
-    } = accepted(alloc, contracts, &mut names)?;
-    Ok(Portfolio {
-        names,
-        terms,
-        plans,
-        children,
-        unused,
-    })
-}
-
-/// The contracts of a list, whose names and what they name are added to the names.
-fn accepted(
-    alloc: Global,
-    contracts: &[Value],
-    names: &mut Names,
-) -> Result<Contracts, PortfolioFault>
-    requires few { length contracts.now ≤ 2 ^ 28 }
-    requires fresh { names.old ≡ no_names }
-    ensures accepted { IfOk result (λ read. portfolio_listed (map view contracts.now)
-        ≡ Ok (together names.new read.terms.items read.plans.items (map (λ c. c.items) read.children.items) (map (λ u. map string_bytes u.items) read.unused.items))) }
-    ensures holds { IfOk result (λ read.
-        IsAccepted names.new read.terms.items read.plans.items (map (λ c. c.items) read.children.items) (map (λ u. map string_bytes u.items) read.unused.items)) }
-    ensures refused { IfErr result (λ fault. IfSome (refusal_of fault) (λ refusal.
-        portfolio_listed (map view contracts.now) ≡ Err refusal)) }
-{
-    let named = read_contracts(alloc, contracts, names)?;
-    check(alloc, contracts, &named, names)?;
+    let named = read_contracts(alloc, contracts, &mut names)?;
+    check(alloc, &named, &mut names)?;
     let unused = unused_lists(alloc, contracts, &named)?;
-    let terms = bound_terms(alloc, named)?;
-    let plans = plan_contracts(alloc, &terms)?;
-    let children = child_lists(alloc, &terms)?;
-    Ok(Contracts {
-        terms,
-        plans,
-        children,
-        unused,
-    })
+    let graph = graph_of(alloc, &names, &named)?;
+    bound_portfolio(alloc, names, named, graph, unused)
 }
 
 /// Nothing where there are no more contracts than there may be, no name comes twice, and the references of each fit its
 /// kind. The names of the contracts are added to the names.
-fn check(
-    alloc: Global,
-    contracts: &[Value],
-    named: &[NamedTerms],
-    names: &mut Names,
-) -> Result<(), PortfolioFault>
+fn check(alloc: Global, named: &[NamedTerms], names: &mut Names) -> Result<(), PortfolioFault>
     requires contracts { All IsContract named.now }
     requires few { length named.now ≤ 2 ^ 28 }
     requires fresh { names.old.contracts ≡ [] }
-    ensures checked { OnOk result (checked (map view contracts.now) named.now ≡ Ok named.now) }
-    ensures refused { IfErr result (λ fault. IfSome (refusal_of fault) (λ refusal.
-        checked (map view contracts.now) named.now ≡ Err refusal)) }
+    ensures checked { OnOk result (checked named.now ≡ Ok named.now) }
+    ensures refused { IfErr result (λ fault. IfSome (refusal_of fault) (λ refusal. checked named.now ≡ Err refusal)) }
     ensures names { OnOk result (names.new ≡ record names.old { contracts = map (λ c. c.id) named.now }) }
-    ensures few_contracts { OnOk result (length contracts.now ≤ MOST_CONTRACTS) }
+    ensures few_contracts { OnOk result (count_with_shadows named.now ≤ MOST_CONTRACTS) }
+    ensures fit { OnOk result (first_unfit named.now ≡ None) }
 {
-    within_limit(alloc, contracts)?;
+    within_limit(alloc, named)?;
     name_contracts(alloc, named, names)?;
-    references_fit(alloc, named)
-}
-
-/// Nothing where there are no more contracts than there may be.
-fn within_limit(alloc: Global, contracts: &[Value]) -> Result<(), PortfolioFault>
-    ensures within { OnOk result (within_limit (map view contracts.now) ≡ Ok (map view contracts.now)) }
-    ensures few { OnOk result (length contracts.now ≤ MOST_CONTRACTS) }
-    ensures refused { IfErr result (λ fault. IfSome (refusal_of fault) (λ refusal.
-        within_limit (map view contracts.now) ≡ Err refusal)) }
-{
-    if contracts.len() > MOST_CONTRACTS {
-        return Err(refused(alloc, 16, 4_097, "-"));
-    }
-    Ok(())
+    references_fit(alloc, &Listing::new(names, named), named)
 }

@@ -1,12 +1,13 @@
--- What is asked of the terms of a contract, kind by kind, as far as kinds are built: each cycle that they give leads on, so its period has at
--- least one unit, and a LAM without a maturity has what it is derived from. A kind that isn't built satisfies nothing. This profile's own.
+-- What is asked of the terms of a contract, kind by kind: each cycle that they give leads on, so its period has at least one unit, and a LAM without a
+-- maturity has what it is derived from. This profile's own.
 use Rattle.std.specs.Prelude.{◌≡◌, int_lt, ℤ, pos, true, IsTrue, is_some, Option, Some, None}
 use Rattle.std.specs.Option.{ForSome}
 use Rattle.act_model.specs.declared.terms.Kind.{Kind}
-use Rattle.act_model.specs.declared.terms.Kind.TheVariants.{PAM, LAM, NAM, ANN, STK, FXOUT, OPTNS, FUTUR}
+use Rattle.act_model.specs.declared.terms.Kind.TheVariants.{PAM, LAM, NAM, ANN, STK, FXOUT, SWPPV, SWAPS, CAPFL, OPTNS, FUTUR, CEG, CEC}
 use Rattle.act_model.specs.declared.terms.Lam.{Lam}
 use Rattle.act_model.specs.declared.terms.Loan.{Loan}
 use Rattle.act_model.specs.declared.terms.Redemption.{Redemption}
+use Rattle.act_model.specs.declared.terms.Swppv.{Swppv}
 use Rattle.act_profile.specs.LoanTerms.{LoanTerms}
 pub use Rattle.act_sched.specs.Schedule.{LeadsOn}
 
@@ -42,7 +43,12 @@ pub record LamIsBuilt (lam : Lam) : Type 0 where
   pub cycles : AmortizingLeadsOn lam.loan lam.redemption
   pub maturity : DerivesMaturity lam lam.maturity_date
 
--- the terms of a kind that is built
+-- what is asked of a plain swap: its cycles lead on
+pub record PlainSwapLeadsOn (swap : Swppv) : Type 0 where
+  pub interest : LeadsOn swap.cycle_of_interest_payment
+  pub reset : LeadsOn swap.rate_reset.cycle_of_rate_reset
+
+-- what is asked of the terms of a kind
 abbrev pub IsBuilt : Kind → Type 0
 IsBuilt (PAM pam) = LoanLeadsOn pam.loan
 IsBuilt (LAM lam) = LamIsBuilt lam
@@ -50,6 +56,10 @@ IsBuilt (NAM nam) = AmortizingLeadsOn nam.loan nam.redemption
 IsBuilt (ANN ann) = AmortizingLeadsOn ann.loan ann.redemption
 IsBuilt (STK stk) = Unit {0}
 IsBuilt (FXOUT fxout) = Unit {0}
+IsBuilt (SWPPV swppv) = PlainSwapLeadsOn swppv
+IsBuilt (SWAPS swaps) = Unit {0}
+IsBuilt (CAPFL capfl) = Unit {0}
 IsBuilt (OPTNS optns) = Unit {0}
 IsBuilt (FUTUR futur) = Unit {0}
-IsBuilt other = ⊥
+IsBuilt (CEG ceg) = Unit {0}
+IsBuilt (CEC cec) = Unit {0}

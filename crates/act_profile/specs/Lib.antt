@@ -13,6 +13,7 @@ pub mod Lists
 pub mod Loan
 pub mod LoanPlan
 pub mod LoanTerms
+pub mod Maturity
 pub mod Order
 pub mod Outcomes
 pub mod Plan

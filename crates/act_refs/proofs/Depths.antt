@@ -103,7 +103,7 @@ no_parent_before graph parent child is = λ before.
     elim before.less [ inl lt ↦ omega arith | inr tie ↦ omega (arith, tie.0) ]
 
 -- of two places in the order, that of a child is the earlier one
-child_earlier : (graph : List (List ℕ)) (order : List ℕ) → IsReferenceOrder graph order → (i j : ℕ) → i < length order → j < length order → IsChild graph (get_or order j 0) (get_or order i 0) → i < j
+pub child_earlier : (graph : List (List ℕ)) (order : List ℕ) → IsReferenceOrder graph order → (i j : ℕ) → i < length order → j < length order → IsChild graph (get_or order j 0) (get_or order i 0) → i < j
 child_earlier graph order is i j within within₂ child =
     elim (cases_order i j) [
       | inl same ↦
@@ -116,7 +116,7 @@ child_earlier graph order is i j within within₂ child =
     ]
 
 -- the place of a contract in the order
-place : (graph : List (List ℕ)) (order : List ℕ) → IsReferenceOrder graph order → (contract : ℕ) → contract < length graph → (i : ℕ) × (i < length order) × (get_or order i 0 ≡ contract)
+pub place : (graph : List (List ℕ)) (order : List ℕ) → IsReferenceOrder graph order → (contract : ℕ) → contract < length graph → (i : ℕ) × (i < length order) × (get_or order i 0 ≡ contract)
 place graph order is contract within =
     let numbers = range_with_len 0 (length graph) in
     let there : Contains numbers contract = (contract, omega (arith, length-range_with_len 0 (length graph)), get_or-range_with_len 0 (length graph) contract contract within ∙ zero-add contract) in

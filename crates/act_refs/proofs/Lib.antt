@@ -1,9 +1,14 @@
 pub mod Answering
 pub mod Depths
+pub mod Finding
+pub mod Leading
+pub mod Ordering
 pub mod Paths
 pub mod Peeling
 pub mod Permuting
 pub mod Reaching
 pub mod Returning
 pub mod Settling
+pub mod Shortening
+pub mod Sorting
 pub mod Turning

@@ -13,7 +13,7 @@ flips : (x y : ℕ) → eqb x y ≡ eqb y x
 flips x y = grind (arith, nat_tests)
 
 -- an element behind the head
-behind : (a c : ℕ) (xs : List ℕ) → a ≢ c → Contains (a ∷ xs) c → Contains xs c
+pub behind : (a c : ℕ) (xs : List ℕ) → a ≢ c → Contains (a ∷ xs) c → Contains xs c
 behind a c xs other has = go has.0 has.1 has.2 where
   go : (k : ℕ) → k < length (a ∷ xs) → get_or (a ∷ xs) k c ≡ c → Contains xs c
   go zero lt is = absurd (other is)

@@ -1,6 +1,7 @@
 pub mod Cycle
 pub mod Distance
 pub mod Order
+pub mod Ordered
 pub mod Path
 pub mod Peeled
 pub mod Settled

@@ -8,4 +8,7 @@ mod graph;
 mod peel;
 mod references;
 
-pub use references::{MOST_IN_CHAIN, OrderFault, children_stand_first, order};
+pub use references::{
+    MOST_IN_CHAIN, OrderFault, chains_are_short, children_stand_first, order,
+    order_is_reference_order,
+};

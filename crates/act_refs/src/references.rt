@@ -1,8 +1,9 @@
 //! The order in which contracts are evaluated that refer to others.
-ghost use Rattle.std.specs.Prelude.{◌≡◌, ℕ, ◌^◌, ◌<◌, List, length, IfOk, IfErr, OnOk};
+ghost use Rattle.std.specs.Prelude.{◌≡◌, ℕ, ◌^◌, ◌<◌, false, List, length, Ok, Err, IfOk, IfErr, OnOk};
 ghost use Rattle.std.specs.List.{All};
 ghost use Rattle.act_refs.specs.Path.{HasNoCycle, child_lists};
 ghost use Rattle.act_refs.specs.Order.{ChildrenStandFirst, IfCycle, IfTooDeep, IsFirstTooDeep, IsReferenceOrder, IsTooDeep};
+ghost use Rattle.act_refs.specs.Ordered.{cyclic, deep, goes_on, most_in_chain, order_of};
 ghost use Rattle.act_refs.specs.Cycle.{IsReportedCycle};
 ghost use Rattle.act_refs.specs.declared.references.OrderFault.TheVariants.{NoMemory};
 
@@ -50,6 +51,11 @@ pub fn order(alloc: Global, children: &[Vec<u32>]) -> Result<Vec<u32>, OrderFaul
     ensures too_deep { IfErr result (λ fault. IfTooDeep fault (IsFirstTooDeep (child_lists children.now))) }
     ensures too_deep_without_cycle { IfErr result (λ fault.
         IfTooDeep fault (λ _. HasNoCycle (child_lists children.now))) }
+    ensures ordered_as { IfOk result (λ order. order_of (child_lists children.now) ≡ Ok order.items) }
+    ensures cycle_as { IfErr result (λ fault.
+        IfCycle fault (λ cycle. order_of (child_lists children.now) ≡ Err (cyclic cycle))) }
+    ensures too_deep_as { IfErr result (λ fault.
+        IfTooDeep fault (λ contract. order_of (child_lists children.now) ≡ Err (deep contract))) }
 {
     let mut depths = nothing_known(alloc, children.len())?;
     let mut order = Vec::new(alloc);
@@ -68,4 +74,16 @@ pub fn order(alloc: Global, children: &[Vec<u32>]) -> Result<Vec<u32>, OrderFaul
 /// In an order that `order` answers each child stands before its parent.
 pub fn children_stand_first()
     ensures { ChildrenStandFirst }
+{}
+
+/// Where there is an order, no chain has more than 16 contracts.
+pub fn chains_are_short()
+    ensures { (graph : List (List ℕ)) (order : List ℕ) → order_of graph ≡ Ok order →
+        (contract : ℕ) → contract < length graph → goes_on graph most_in_chain contract ≡ false }
+{}
+
+/// Where there is an order, it is the reference order, so that each contract stands in it once, and each child
+/// before its parent.
+pub fn order_is_reference_order()
+    ensures { (graph : List (List ℕ)) (order : List ℕ) → order_of graph ≡ Ok order → IsReferenceOrder graph order }
 {}

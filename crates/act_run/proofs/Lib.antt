@@ -1,4 +1,6 @@
-pub mod Childless
-pub mod InPortfolio
+pub mod Before
+pub mod Chosen
+pub mod DayOrder
+pub mod Limited
 pub mod Observations
 pub mod TakenRows

@@ -1,19 +1,14 @@
 -- The observed events of a contract, entry by entry.
-use Rattle.std.proofs.Common.{◌≡◌, ℕ, ◌+◌, ◌<◌, ◌≤◌, List, [], ◌++◌, length, drop, get_or, refl, sym, ◌∙◌, ap, append_assoc, append-nil}
+use Rattle.std.proofs.Common.{◌≡◌, ℕ, ◌+◌, ◌<◌, ◌≤◌, List, ◌++◌, length, drop, get_or, sym, ◌∙◌, ap, append_assoc, append-nil}
 use Rattle.std.proofs.lemmas.List.{drop_all}
 use Rattle.std.specs.List.{enumerate_from, flat_map}
 use Rattle.act_model.specs.declared.observed.Obs.{Obs}
 use Rattle.act_model.specs.declared.event.Event.{Event}
 use Rattle.act_model.specs.declared.terms.Kind.{Kind}
-use Rattle.act_model.specs.Run.{EventPlan}
 use Rattle.act_model.specs.Observed.{observed_events}
-use Rattle.act_model.specs.declared.terms.Common.{Common}
-use Rattle.act_model.specs.declared.terms.Kind.TheVariants as kind
 use Rattle.act_model.specs.declared.terms.Terms.{Terms}
 use Rattle.act_profile.specs.Contract.{observed_as}
-use Rattle.act_profile.specs.Built.{IsBuilt}
-use Rattle.act_profile.specs.Events.{events_of, events_of_children, events_of_entry, events_observed, events_scheduled, with_exercise}
-use Rattle.act_profile.specs.Order.{counting, in_order}
+use Rattle.act_profile.specs.Events.{events_of_entry, events_observed}
 use Rattle.act_model.proofs.Lists.{next_of}
 
 -- the events of entries whose first has this place
@@ -41,34 +36,3 @@ added_all kind entries earlier events k so_far le =
 pub observed_are : (terms : Terms) (entries own : List Obs) → own ≡ observed_events entries (observed_as terms.common) → events_from terms.kind 0 own ≡ events_observed terms entries
 unfolding events_observed
 observed_are terms entries own are = ap (events_from terms.kind 0) are
-
--- ---- with the scheduled ones, in order
-
-pub ordered : (terms : Terms) (plan : EventPlan) (entries own : List Obs) (scheduled added events : List Event) → own ≡ observed_events entries (observed_as terms.common) →
-    scheduled ≡ events_scheduled terms.common terms.kind plan entries → added ≡ scheduled ++ events_from terms.kind 0 own → events ≡ in_order added →
-    events ≡ in_order (events_scheduled terms.common terms.kind plan entries ++ events_observed terms entries)
-ordered terms plan entries own scheduled added events are_own are_scheduled are_added are_ordered =
-    are_ordered ∙ ap in_order (are_added ∙ ap (λ (later : List Event). scheduled ++ later) (observed_are terms entries own are_own)
-    ∙ ap (λ (earlier : List Event). earlier ++ events_observed terms entries) are_scheduled)
-
--- ---- those that count
-
-no_rows_built : (common : Common) (contract : Kind) → IsBuilt contract → events_of_children common contract [] ≡ []
-no_rows_built common (kind.PAM pam) is = refl
-no_rows_built common (kind.LAM lam) is = refl
-no_rows_built common (kind.NAM nam) is = refl
-no_rows_built common (kind.ANN ann) is = refl
-no_rows_built common (kind.STK stk) is = refl
-no_rows_built common (kind.FXOUT fxout) is = refl
-no_rows_built common (kind.OPTNS optns) is = refl
-no_rows_built common (kind.FUTUR futur) is = refl
-no_rows_built common other is = absurd is
-
-pub events_of-built : (terms : Terms) (plan : EventPlan) (entries : List Obs) (events counted all : List Event) → IsBuilt terms.kind →
-    events ≡ in_order (events_scheduled terms.common terms.kind plan entries ++ events_observed terms entries) →
-    counted ≡ counting terms.common.status_date terms.kind events → all ≡ with_exercise terms.kind counted → all ≡ events_of terms plan entries []
-unfolding events_of
-events_of-built terms plan entries events counted all is are_ordered are_counted are_all =
-    let own = events_scheduled terms.common terms.kind plan entries ++ events_observed terms entries in
-    let merged = ap (λ (rows : List Event). own ++ rows) (no_rows_built terms.common terms.kind is) ∙ append-nil own in
-    are_all ∙ ap (with_exercise terms.kind) (are_counted ∙ ap (λ (events : List Event). counting terms.common.status_date terms.kind events) (are_ordered ∙ ap in_order (sym merged)))

@@ -1,69 +1,94 @@
 //! The events of a contract over a list of entries.
-ghost use Rattle.std.specs.Prelude.{◌≡◌, List, [], ◌∷◌, ◌++◌, IfOk};
+ghost use Rattle.std.specs.Prelude.{◌≡◌, ◌∷◌, ◌++◌, map, IfOk};
+ghost use Rattle.std.specs.Arc.{arc_value};
 ghost use Rattle.std.specs.List.{enumerate_from, flat_map};
 ghost use Rattle.act_model.specs.Observed.{observed_events};
-ghost use Rattle.act_model.specs.declared.observed.Obs.{Obs};
 ghost use Rattle.act_profile.specs.Contract.{observed_as};
-ghost use Rattle.act_profile.specs.Built.{IsBuilt};
 ghost use Rattle.act_profile.specs.Events.{event_observed, events_by, events_observed, events_of, events_of_entry, events_scheduled, prepayment_events, with_exercise};
-ghost use Rattle.act_profile.specs.Order.{in_order};
+ghost use Rattle.act_swap.specs.Children.{RunsAreInDayOrder};
 
+use act_credit::guarantee_events;
 use act_date::Day;
 use act_kind::{put_in_order, retain_counting};
 use act_model::{
-    Common, Event, EventType, Kind, Obs, ObsKind, Observed, PenaltyType, Plan, Source, Terms,
+    Common, Event, EventType, Kind, Obs, ObsKind, Observed, PenaltyType, Plan, Run, Source, Terms,
 };
 use act_num::{Fixed, NoMemory};
 use act_option::{exercised_events, settled_events};
+use act_swap::add_rows_of_children;
 use std::alloc::Global;
+use std::sync::Arc;
 
-/// The events of a contract that count, in order: those of its plan, and observed ones behind the scheduled ones of the
-/// same day and type. An observed exercise moves that of an option, and only an exercise that counts is settled.
-pub fn events_of<O: Observed>(
+/// The events of a contract that count, in order: those of its plan, observed ones behind the scheduled ones of the same day
+/// and type, and behind these rows of its children. An observed exercise moves that of an option, a credit event that of a
+/// guarantee, and only an exercise that counts is settled.
+pub(crate) fn events_of<O: Observed>(
+    alloc: Global,
+    terms: &Terms,
+    plan: &Plan,
+    children: &[Arc<Run, Global>],
+    seen: &O,
+) -> Result<Vec<Event>, NoMemory>
+    requires { RunsAreInDayOrder (map arc_value children.now) }
+    ensures { IfOk result (λ events. events.items
+        ≡ events_of terms.now plan.now (O.entries seen.now) (map arc_value children.now)) }
+{
+    let mut events = own_events(alloc, terms, plan, seen)?;
+    add_rows_of_children(&mut events, &terms.common, &terms.kind, children)?;
+    put_in_order(&mut events)?;
+    Ok(with_exercise(&terms.kind, retain_counting(terms, events)))
+}
+
+/// The events of a contract that aren't rows of its children: first the scheduled ones, and then the observed ones.
+fn own_events<O: Observed>(
     alloc: Global,
     terms: &Terms,
     plan: &Plan,
     seen: &O,
 ) -> Result<Vec<Event>, NoMemory>
-    requires { IsBuilt terms.now.kind }
-    ensures { IfOk result (λ events. events.items ≡ events_of terms.now plan.now (O.entries seen.now) []) }
+    ensures { IfOk result (λ events. events.items
+        ≡ events_scheduled terms.now.common terms.now.kind plan.now (O.entries seen.now) ++ events_observed terms.now (O.entries seen.now)) }
 {
     let own = seen.events_of(alloc, observed_as(&terms.common))?;
-    let events = events_in_order(alloc, terms, plan, &own);
+    let events = scheduled_and_observed(alloc, terms, plan, &own, seen);
     drop(own);
-    Ok(with_exercise(&terms.kind, retain_counting(terms, events?)))
+    events
 }
 
-/// The events of a contract in order, by the entries of its own.
-fn events_in_order(
+/// The same by the entries of the contract's own.
+fn scheduled_and_observed<O: Observed>(
     alloc: Global,
     terms: &Terms,
     plan: &Plan,
     own: &[Obs],
+    seen: &O,
 ) -> Result<Vec<Event>, NoMemory>
-    requires { IsBuilt terms.now.kind }
-    ensures { IfOk result (λ events. (entries : List Obs) → own.now ≡ observed_events entries (observed_as terms.now.common) →
-        events.items ≡ in_order (events_scheduled terms.now.common terms.now.kind plan.now entries ++ events_observed terms.now entries)) }
+    requires { own.now ≡ observed_events (O.entries seen.now) (observed_as terms.now.common) }
+    ensures { IfOk result (λ events. events.items
+        ≡ events_scheduled terms.now.common terms.now.kind plan.now (O.entries seen.now) ++ events_observed terms.now (O.entries seen.now)) }
 {
-    let mut events = scheduled_events(alloc, terms, plan, own)?;
+    let mut events = scheduled_events(alloc, terms, plan, own, seen)?;
     add_all(&mut events, &terms.kind, own)?;
-    put_in_order(&mut events)?;
     Ok(events)
 }
 
-/// The scheduled events of a contract: those of its plan, and of an option with the day of its exercise.
-fn scheduled_events(
+/// The scheduled events of a contract: those of its plan, of an option with the day of its exercise, and of a guarantee with
+/// that of the credit event.
+fn scheduled_events<O: Observed>(
     alloc: Global,
     terms: &Terms,
     plan: &Plan,
     own: &[Obs],
+    seen: &O,
 ) -> Result<Vec<Event>, NoMemory>
-    requires { IsBuilt terms.now.kind }
-    ensures { IfOk result (λ events. (entries : List Obs) → own.now ≡ observed_events entries (observed_as terms.now.common) →
-        events.items ≡ events_scheduled terms.now.common terms.now.kind plan.now entries) }
+    requires { own.now ≡ observed_events (O.entries seen.now) (observed_as terms.now.common) }
+    ensures { IfOk result (λ events. events.items
+        ≡ events_scheduled terms.now.common terms.now.kind plan.now (O.entries seen.now)) }
 {
     match &terms.kind {
         Kind::OPTNS(optns) => exercised_events(alloc, &terms.common, optns, own),
+        Kind::CEG(ceg) => guarantee_events(alloc, &terms.common, ceg, plan, seen),
+        Kind::CEC(cec) => guarantee_events(alloc, &terms.common, &cec.guarantee, plan, seen),
         _ => Ok(Vec::from_slice(alloc, &plan.events)?),
     }
 }

@@ -2,9 +2,8 @@
 #![tactic(auto)]
 
 mod events;
-mod portfolio;
+mod limit;
 mod rows;
 mod run;
 
-pub use portfolio::run_without_children;
 pub use run::evaluate;

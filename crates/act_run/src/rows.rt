@@ -1,5 +1,6 @@
 //! The rows of events.
-ghost use Rattle.std.specs.Prelude.{◌≡◌, ◌+◌, [], length, Ok, IfOk, IfErr};
+ghost use Rattle.std.specs.Prelude.{◌≡◌, ◌+◌, length, map, Ok, IfOk, IfErr};
+ghost use Rattle.std.specs.Arc.{arc_value};
 ghost use Rattle.act_kind.specs.Takes.{Takes};
 ghost use Rattle.act_profile.specs.Built.{IsBuilt};
 ghost use Rattle.act_profile.specs.Outcomes.{map_ok};
@@ -11,28 +12,31 @@ use act_contract::{currency_of, step};
 use act_model::{Close, Event, Observed, Plan, Row, Rows, Run, State, Stop, Terms};
 use act_num::{NoMemory, Steps};
 use std::alloc::Global;
+use std::sync::Arc;
 use std::sync::ledger::Ledger;
 
 /// The rows of events from a state on, one for each, up to the first stop. It ticks once for each row.
-pub fn rows_from<O: Observed, L: Ledger>(
+pub(crate) fn rows_from<O: Observed, L: Ledger>(
     alloc: Global,
     terms: &Terms,
     plan: &Plan,
     first: State,
     events: &[Event],
+    children: &[Arc<Run, Global>],
     seen: &O,
     steps: &mut Steps<L>,
 ) -> Result<Run, NoMemory>
     requires built { IsBuilt terms.now.kind }
     requires plan { plan_of terms.now ≡ Ok plan.now }
     ensures run { IfOk result (λ run. run
-        ≡ rows_from (step_of terms.now plan.now (O.entries seen.now) []) (currency_of terms.now []) first events.now) }
+        ≡ rows_from (step_of terms.now plan.now (O.entries seen.now) (map arc_value children.now))
+        (currency_of terms.now (map arc_value children.now)) first events.now) }
     ensures ticked { IfOk result (λ run. steps.new ≡ steps.old + length run.rows) }
 {
     let mut rows = Rows::with_capacity(alloc, events.len())?;
     let mut state = first;
     'events: for event in events {
-        match next_row(terms, plan, &state, event, seen, steps) {
+        match next_row(terms, plan, &state, event, children, seen, steps) {
             Ok(row) => {
                 state = row.state;
                 rows.push(&row)?;
@@ -50,7 +54,7 @@ pub fn rows_from<O: Observed, L: Ledger>(
 }
 
 /// No rows, and a stop.
-pub fn stopped_at_once(alloc: Global, stop: Stop) -> Run
+pub(crate) fn stopped_at_once(alloc: Global, stop: Stop) -> Run
     ensures { result ≡ stopped_at_once stop }
 {
     Run {
@@ -65,19 +69,20 @@ fn next_row<O: Observed, L: Ledger>(
     plan: &Plan,
     state: &State,
     event: &Event,
+    children: &[Arc<Run, Global>],
     seen: &O,
     steps: &mut Steps<L>,
 ) -> Result<Row, Stop>
     requires built { IsBuilt terms.now.kind }
     requires plan { plan_of terms.now ≡ Ok plan.now }
-    ensures { Takes result (map_ok (row_of event.now (currency_of terms.now [] event.now))
-        (step_of terms.now plan.now (O.entries seen.now) [] state.now event.now)) steps.old steps.new }
+    ensures { Takes result (map_ok (row_of event.now (currency_of terms.now (map arc_value children.now) event.now))
+        (step_of terms.now plan.now (O.entries seen.now) (map arc_value children.now) state.now event.now)) steps.old steps.new }
 {
-    match step(terms, plan, state, event, seen, steps) {
+    match step(terms, plan, state, event, children, seen, steps) {
         Ok((payoff, next)) => Ok(Row {
             day: event.day,
             kind: event.kind,
-            currency: currency_of(terms, event),
+            currency: currency_of(terms, children, event),
             payoff,
             state: next,
         }),

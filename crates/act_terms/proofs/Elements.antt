@@ -6,7 +6,7 @@ use Rattle.serde_json.specs.Data.{Data}
 use Rattle.serde_json.specs.View.{items_of}
 use Rattle.act_terms.specs.Structure.{listed, reference_of, references_from}
 use Rattle.act_terms.specs.declared.fault.TermsFault.{TermsFault}
-use Rattle.act_terms.specs.declared.reference.Reference.{Reference}
+use Rattle.act_terms.specs.Reference.{Reference}
 
 -- the list of the items that values make is the values
 pub listed_again : (ds : List Data) → listed (items_of ds) ≡ ds

@@ -1,7 +1,9 @@
 pub mod Among
 pub mod CodeNames
+pub mod CreditEvents
 pub mod Elements
 pub mod Given
 pub mod NamesKept
+pub mod Nesting
 pub mod TermNames
 pub mod WithoutWant

@@ -7,22 +7,26 @@ use Rattle.act_model.specs.declared.choice.ContractType.{ContractType}
 use Rattle.act_model.specs.declared.choice.ContractType.TheVariants as type
 use Rattle.act_model.specs.declared.choice.DeliverySettlement.{DeliverySettlement}
 use Rattle.act_model.specs.declared.choice.DeliverySettlement.TheVariants as delivery
+use Rattle.act_model.specs.declared.terms.Kind.{Kind}
+use Rattle.act_model.specs.declared.terms.Kind.TheVariants as kind
 use Rattle.act_profile.specs.Outcomes.{then_ok}
 use Rattle.act_json.specs.Fields.{decimal_field, word_field}
 use Rattle.act_terms.specs.Choices.{delivery_named, reference_role_named, reference_type_named, scaling_effect_named}
 use Rattle.act_terms.specs.Common.{business_days_of, common_of, position_of, trades_of}
-use Rattle.act_terms.specs.Contract.{NamedTerms, ann_terms_of, contract_type, futur_terms_of, fxout_terms_of, lam_terms_of, nam_terms_of, named_terms_of, optns_terms_of, pam_terms_of, stk_terms_of, terms_of}
+use Rattle.act_terms.specs.Contract.{NamedTerms, contract_type, kind_of, named_terms_of, naming_kind, plain_kind, terms_of}
+use Rattle.act_terms.specs.Credit.{cec_of, ceg_of}
 use Rattle.act_terms.specs.Exchange.{currency2_of, fxout_of, pair_of, rate_name}
 use Rattle.act_terms.specs.Exercise.{futur_of, optns_of}
 use Rattle.act_terms.specs.Fields.{choice_field, day_after, needed, needed_day, needed_where, not_negative, optional, optional_cycle, optional_day, optional_decimal, positive}
 use Rattle.act_terms.specs.Loan.{fee_of, interest_dates_of, interest_of, loan_of, no_effect, pam_of, penalty_of, rate_limits_of, rate_reset_of, reset_code_for, scales, scaling_of}
 use Rattle.act_terms.specs.Names.{code_where, contract_id, currencies_of, currency_field, numbered, numbered_currencies, pair_name, settlement_of}
 use Rattle.act_terms.specs.Redemption.{ann_of, calculation_base_of, lam_of, lam_payment_of, nam_of, redemption_dates_of}
-use Rattle.act_terms.specs.Structure.{choice_or_refusal, contract_inside, contract_named, elements_of, has_structure, market_named, market_text, name_or_refusal, reference_of, reference_within, references_from, references_of, referred_of, structure_of, with_names, without_contracts}
+use Rattle.act_terms.specs.Structure.{choice_or_refusal, contract_inside, contract_named, elements_of, has_structure, market_named, market_text, name_or_refusal, reference_of, reference_within, references_from, references_of, referred_of, structure_of, with_names}
+use Rattle.act_terms.specs.Reference.{Target}
+use Rattle.act_terms.specs.Swap.{capfl_of, plain_interest_of, swaps_of, swppv_of}
 use Rattle.act_terms.specs.declared.fault.TermsFault.{TermsFault}
 use Rattle.act_terms.specs.declared.reference.ReferenceType.{ReferenceType}
 use Rattle.act_terms.specs.declared.reference.ReferenceType.TheVariants.{CNT, CID, MOC}
-use Rattle.act_terms.specs.declared.reference.Referred.{Referred}
 use Rattle.serde_json.specs.Data.{Data, object}
 
 -- what is read comes with these names of contracts
@@ -92,7 +96,7 @@ module _ (contracts : List (List ℕ)) (names : NameLists) (at : names.contracts
       naming contracts _ (currencies_of type names contract) (currencies_keep contracts names at contract type) (λ money at.
       plain contracts _ (business_days_of contract) (λ days.
       naming contracts _ (code_where false (codes "marketObjectCode") money.1 contract) (code_keeps contracts money.1 at contract _ _) (λ market at.
-      plain contracts _ (trades_of contract) (λ trades. at)))))
+      plain contracts _ (trades_of type contract) (λ trades. at)))))
 
   loan_keeps : (exchange : ℤ) → Keeps contracts (loan_of exchange names contract)
   unfolding loan_of
@@ -163,7 +167,7 @@ module _ (contracts : List (List ℕ)) (names : NameLists) (at : names.contracts
       naming contracts _ (pair_of (unwrap_or given delivery.D) currency2.1 contract) (pair_keeps contracts currency2.1 at contract _) (λ pair at. at))))))
 
 module _ (contracts : List (List ℕ)) (element : Data) where
-  inside_keeps : (names : NameLists) → names.contracts ≡ contracts → (read : Result Referred TermsFault) → Keeps contracts (with_names names read)
+  inside_keeps : (names : NameLists) → names.contracts ≡ contracts → (read : Result Target TermsFault) → Keeps contracts (with_names names read)
   inside_keeps names at (Ok referred) = at
   inside_keeps names at (Err fault) = tt
 
@@ -197,8 +201,7 @@ module _ (contracts : List (List ℕ)) (names : NameLists) (at : names.contracts
   unfolding structure_of
   structure_keeps =
       plain contracts _ (elements_of contract) (λ elements.
-      naming contracts _ (references_from names elements) (references_keep contracts elements names at) (λ read at.
-      plain contracts _ (without_contracts read.0) (λ references. at)))
+      references_keep contracts elements names at)
 
   structure_where : (has : Bool) → Keeps contracts (if has then structure_of names contract else Ok ([], names))
   structure_where true = structure_keeps
@@ -208,64 +211,44 @@ module _ (contracts : List (List ℕ)) (names : NameLists) (at : names.contracts
   unfolding references_of
   type_keeps type = structure_where (has_structure type)
 
-pam_terms_keep : (number : ℕ) (names : NameLists) (contract : Data) → Keeps names.contracts (pam_terms_of number names contract)
-unfolding pam_terms_of
-pam_terms_keep number names contract =
-    naming names.contracts _ (common_of type.PAM number names contract) (common_keeps names.contracts names refl contract type.PAM number) (λ common at.
-    naming names.contracts _ (pam_of common.1 contract) (pam_keeps names.contracts common.1 at contract) (λ pam at. at))
+module _ (contracts : List (List ℕ)) (names : NameLists) (at : names.contracts ≡ contracts) (contract : Data) where
+  swppv_keeps : Keeps contracts (swppv_of names contract)
+  unfolding swppv_of
+  swppv_keeps =
+      plain contracts _ (needed_day (codes "initialExchangeDate") contract) (λ exchange.
+      plain contracts _ (needed (codes "maturityDate") (day_after exchange (codes "maturityDate") contract)) (λ maturity.
+      plain contracts _ (needed (codes "notionalPrincipal") (not_negative (codes "notionalPrincipal") contract)) (λ notional.
+      plain contracts _ (plain_interest_of contract) (λ interest.
+      naming contracts _ (rate_reset_of names contract) (reset_keeps contracts names at contract) (λ reset at. at)))))
 
-lam_terms_keep : (number : ℕ) (names : NameLists) (contract : Data) → Keeps names.contracts (lam_terms_of number names contract)
-unfolding lam_terms_of
-lam_terms_keep number names contract =
-    naming names.contracts _ (common_of type.LAM number names contract) (common_keeps names.contracts names refl contract type.LAM number) (λ common at.
-    naming names.contracts _ (lam_of common.1 contract) (lam_keeps names.contracts common.1 at contract) (λ lam at. at))
+  -- terms that name things, and terms that name none, as those of a kind
+  as_named : {A : Type 0} (make : A → Kind) (read : Result (A × NameLists) TermsFault) → Keeps contracts read → Keeps contracts (naming_kind make read)
+  as_named make read here = naming contracts _ read here (λ terms at. at)
 
-nam_terms_keep : (number : ℕ) (names : NameLists) (contract : Data) → Keeps names.contracts (nam_terms_of number names contract)
-unfolding nam_terms_of
-nam_terms_keep number names contract =
-    naming names.contracts _ (common_of type.NAM number names contract) (common_keeps names.contracts names refl contract type.NAM number) (λ common at.
-    naming names.contracts _ (nam_of common.1 contract) (nam_keeps names.contracts common.1 at contract) (λ nam at. at))
+  as_plain : {A : Type 0} (make : A → Kind) (read : Result A TermsFault) → Keeps contracts (plain_kind make names read)
+  as_plain make read = plain contracts _ read (λ terms. at)
 
-ann_terms_keep : (number : ℕ) (names : NameLists) (contract : Data) → Keeps names.contracts (ann_terms_of number names contract)
-unfolding ann_terms_of
-ann_terms_keep number names contract =
-    naming names.contracts _ (common_of type.ANN number names contract) (common_keeps names.contracts names refl contract type.ANN number) (λ common at.
-    naming names.contracts _ (ann_of common.1 contract) (ann_keeps names.contracts common.1 at contract) (λ ann at. at))
-
-stk_terms_keep : (number : ℕ) (names : NameLists) (contract : Data) → Keeps names.contracts (stk_terms_of number names contract)
-unfolding stk_terms_of
-stk_terms_keep number names contract =
-    naming names.contracts _ (common_of type.STK number names contract) (common_keeps names.contracts names refl contract type.STK number) (λ common at. at)
-
-fxout_terms_keep : (number : ℕ) (names : NameLists) (contract : Data) → Keeps names.contracts (fxout_terms_of number names contract)
-unfolding fxout_terms_of
-fxout_terms_keep number names contract =
-    naming names.contracts _ (common_of type.FXOUT number names contract) (common_keeps names.contracts names refl contract type.FXOUT number) (λ common at.
-    naming names.contracts _ (fxout_of common.1 contract) (fxout_keeps names.contracts common.1 at contract) (λ fxout at. at))
-
-optns_terms_keep : (number : ℕ) (names : NameLists) (contract : Data) → Keeps names.contracts (optns_terms_of number names contract)
-unfolding optns_terms_of
-optns_terms_keep number names contract =
-    naming names.contracts _ (common_of type.OPTNS number names contract) (common_keeps names.contracts names refl contract type.OPTNS number) (λ common at.
-    plain names.contracts _ (optns_of contract) (λ optns. at))
-
-futur_terms_keep : (number : ℕ) (names : NameLists) (contract : Data) → Keeps names.contracts (futur_terms_of number names contract)
-unfolding futur_terms_of
-futur_terms_keep number names contract =
-    naming names.contracts _ (common_of type.FUTUR number names contract) (common_keeps names.contracts names refl contract type.FUTUR number) (λ common at.
-    plain names.contracts _ (futur_of contract) (λ futur. at))
+  kind_keeps : (type : ContractType) → Keeps contracts (kind_of type names contract)
+  unfolding kind_of
+  kind_keeps type.PAM = as_named kind.PAM (pam_of names contract) (pam_keeps contracts names at contract)
+  kind_keeps type.LAM = as_named kind.LAM (lam_of names contract) (lam_keeps contracts names at contract)
+  kind_keeps type.NAM = as_named kind.NAM (nam_of names contract) (nam_keeps contracts names at contract)
+  kind_keeps type.ANN = as_named kind.ANN (ann_of names contract) (ann_keeps contracts names at contract)
+  kind_keeps type.STK = at
+  kind_keeps type.FXOUT = as_named kind.FXOUT (fxout_of names contract) (fxout_keeps contracts names at contract)
+  kind_keeps type.SWPPV = as_named kind.SWPPV (swppv_of names contract) swppv_keeps
+  kind_keeps type.SWAPS = as_plain kind.SWAPS (swaps_of contract)
+  kind_keeps type.CAPFL = as_plain kind.CAPFL (capfl_of contract)
+  kind_keeps type.OPTNS = as_plain kind.OPTNS (optns_of contract)
+  kind_keeps type.FUTUR = as_plain kind.FUTUR (futur_of contract)
+  kind_keeps type.CEG = as_plain kind.CEG (ceg_of contract)
+  kind_keeps type.CEC = as_plain kind.CEC (cec_of contract)
 
 terms_keep : (type : ContractType) (number : ℕ) (names : NameLists) (contract : Data) → Keeps names.contracts (terms_of type number names contract)
 unfolding terms_of
-terms_keep type.PAM number names contract = pam_terms_keep number names contract
-terms_keep type.LAM number names contract = lam_terms_keep number names contract
-terms_keep type.NAM number names contract = nam_terms_keep number names contract
-terms_keep type.ANN number names contract = ann_terms_keep number names contract
-terms_keep type.STK number names contract = stk_terms_keep number names contract
-terms_keep type.FXOUT number names contract = fxout_terms_keep number names contract
-terms_keep type.OPTNS number names contract = optns_terms_keep number names contract
-terms_keep type.FUTUR number names contract = futur_terms_keep number names contract
-terms_keep other number names contract = tt
+terms_keep type number names contract =
+    naming names.contracts _ (common_of type number names contract) (common_keeps names.contracts names refl contract type number) (λ common at.
+    naming names.contracts _ (kind_of type common.1 contract) (kind_keeps names.contracts common.1 at contract type) (λ own at. at))
 
 named_keep : (number : ℕ) (names : NameLists) (contract : Data) → Keeps names.contracts (named_terms_of number names contract)
 unfolding named_terms_of

@@ -7,7 +7,7 @@ use Rattle.act_model.specs.declared.choice.ContractType.{ContractType}
 use Rattle.act_model.specs.declared.choice.ContractType.TheVariants as type
 use Rattle.serde_json.specs.Data.{Data, object, Members}
 use Rattle.serde_json.specs.Find.{as_object}
-use Rattle.act_terms.specs.Used.{common_terms, is_among, is_term_of, loan_terms, member_names, own_terms, redemption_terms, settlement_terms, shared_terms, unused_names}
+use Rattle.act_terms.specs.Used.{common_terms, is_among, is_term_of, loan_terms, member_names, own_terms, redemption_terms, settlement_terms, shared_terms, trade_terms, unused_names}
 
 pub list_any-map : {X Y : Type 0} (p : Y → Bool) (f : X → Y) (xs : List X) → list_any (λ x. p (f x)) xs ≡ list_any p (map f xs)
 list_any-map p f [] = refl
@@ -22,9 +22,15 @@ pub term_is : (type : ContractType) (name : List ℕ) → is_term_of type name �
 unfolding is_term_of
 term_is type name = among_both (shared_terms type) (own_terms type) name
 
--- a shared term is one that every contract has, or the currency of settlement
-pub shared_is : (type : ContractType) (name : List ℕ) → is_among (shared_terms type) name ≡ (is_among common_terms name || is_among (settlement_terms type) name)
-shared_is type name = among_both common_terms (settlement_terms type) name
+-- a shared term is one of the first of these, or one of purchase and termination
+pub shared_is : (type : ContractType) (name : List ℕ)
+    → is_among (shared_terms type) name ≡ (is_among (common_terms ++ settlement_terms type) name || is_among (trade_terms type) name)
+shared_is type name = among_both (common_terms ++ settlement_terms type) (trade_terms type) name
+
+-- one of the first is one that every contract has, or the currency of settlement
+pub money_is : (type : ContractType) (name : List ℕ)
+    → is_among (common_terms ++ settlement_terms type) name ≡ (is_among common_terms name || is_among (settlement_terms type) name)
+money_is type name = among_both common_terms (settlement_terms type) name
 
 -- the terms of a loan whose principal is redeemed are those that all loans have, and those of redemption
 abbrev Redeems : ContractType → Type 0

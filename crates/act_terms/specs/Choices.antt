@@ -17,6 +17,8 @@ use Rattle.act_model.specs.declared.choice.ExerciseType.{ExerciseType}
 use Rattle.act_model.specs.declared.choice.ExerciseType.TheVariants as exercise
 use Rattle.act_model.specs.declared.choice.FeeBasis.{FeeBasis}
 use Rattle.act_model.specs.declared.choice.FeeBasis.TheVariants as basis
+use Rattle.act_model.specs.declared.choice.GuaranteedExposure.{GuaranteedExposure}
+use Rattle.act_model.specs.declared.choice.GuaranteedExposure.TheVariants as exposure
 use Rattle.act_model.specs.declared.choice.InterestCalculationBase.{InterestCalculationBase}
 use Rattle.act_model.specs.declared.choice.InterestCalculationBase.TheVariants.{NT, NTIED, NTL}
 use Rattle.act_model.specs.declared.choice.OptionType.{OptionType}
@@ -24,6 +26,8 @@ use Rattle.act_model.specs.declared.choice.OptionType.TheVariants as option
 use Rattle.act_model.specs.declared.choice.PenaltyType.{PenaltyType}
 use Rattle.act_model.specs.declared.choice.PenaltyType.TheVariants as penalty
 use Rattle.act_model.specs.declared.choice.ScalingEffect.{ScalingEffect}
+use Rattle.act_model.specs.declared.observed.ObsKind.{ObsKind}
+use Rattle.act_model.specs.declared.observed.ObsKind.TheVariants as observed
 use Rattle.act_terms.specs.declared.reference.ReferenceRole.{ReferenceRole}
 use Rattle.act_terms.specs.declared.reference.ReferenceRole.TheVariants.{UDL, FIL, SEL, COVE, COVI}
 use Rattle.act_terms.specs.declared.reference.ReferenceType.{ReferenceType}
@@ -79,6 +83,14 @@ option_type_named text = among ((codes "C", option.C) ∷ (codes "P", option.P) 
 -- optionExerciseType
 unfoldable pub exercise_type_named : List ℕ → Option ExerciseType
 exercise_type_named text = among ((codes "E", exercise.E) ∷ (codes "A", exercise.A) ∷ (codes "B", exercise.B) ∷ []) text
+
+-- guaranteedExposure
+unfoldable pub exposure_named : List ℕ → Option GuaranteedExposure
+exposure_named text = among ((codes "NO", exposure.NO) ∷ (codes "NI", exposure.NI) ∷ (codes "MV", exposure.MV) ∷ []) text
+
+-- a credit event
+unfoldable pub credit_event_named : List ℕ → Option ObsKind
+credit_event_named text = among ((codes "DL", observed.DL) ∷ (codes "DQ", observed.DQ) ∷ (codes "DF", observed.DF) ∷ []) text
 
 -- referenceType
 unfoldable pub reference_type_named : List ℕ → Option ReferenceType

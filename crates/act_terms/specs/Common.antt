@@ -1,10 +1,11 @@
 -- The terms that every contract has. ACTUS data dictionary; what is required and the defaults are this profile's own.
-use Rattle.std.specs.Prelude.{ℕ, pos, false, codes, unwrap_or, Option, None, Result, Ok}
+use Rattle.std.specs.Prelude.{ℕ, pos, if◌then◌else◌, Bool, true, false, codes, unwrap_or, Option, None, Result, Ok}
 use Rattle.act_date.specs.declared.calendar.Calendar.TheVariants.{Nc}
 use Rattle.act_date.specs.declared.calendar.Convention.TheVariants.{Nos}
 use Rattle.act_date.specs.declared.cycle.MonthRule.TheVariants.{Sd}
 use Rattle.act_model.specs.Names.{NameLists}
 use Rattle.act_model.specs.declared.choice.ContractType.{ContractType}
+use Rattle.act_model.specs.declared.choice.ContractType.TheVariants as type
 use Rattle.act_model.specs.declared.terms.Common.{Common}
 use Rattle.act_terms.specs.Choices.{calendar_named, convention_named, month_rule_named, role_named}
 use Rattle.act_terms.specs.Fault.{◌>>=◌}
@@ -32,14 +33,27 @@ business_days_of contract = do
   month_rule ← optional (codes "endOfMonthConvention") (choice_field month_rule_named (codes "endOfMonthConvention") contract)
   Ok (record { calendar = unwrap_or calendar Nc; business_day_convention = unwrap_or convention Nos; end_of_month_convention = unwrap_or month_rule Sd })
 
+-- contracts of a type may be bought and sold; guarantees aren't, and don't use the terms of it
+abbrev pub may_trade : ContractType → Bool
+may_trade type.CEG = false
+may_trade type.CEC = false
+may_trade other = true
+
+-- no purchase and no termination
+abbrev pub no_trades : Trades
+no_trades = record { purchase_date = None; price_at_purchase_date = pos 0; termination_date = None; price_at_termination_date = pos 0 }
+
 -- purchase and termination
-unfoldable pub trades_of : Data → Result Trades TermsFault
-trades_of contract = do
+unfoldable pub given_trades_of : Data → Result Trades TermsFault
+given_trades_of contract = do
   purchase ← optional_day (codes "purchaseDate") contract
   purchase_price ← optional_decimal (codes "priceAtPurchaseDate") contract
   termination ← optional_day (codes "terminationDate") contract
   termination_price ← optional_decimal (codes "priceAtTerminationDate") contract
   Ok (record { purchase_date = purchase; price_at_purchase_date = unwrap_or purchase_price (pos 0); termination_date = termination; price_at_termination_date = unwrap_or termination_price (pos 0) })
+
+unfoldable pub trades_of : ContractType → Data → Result Trades TermsFault
+trades_of type contract = if may_trade type then given_trades_of contract else Ok no_trades
 
 -- the terms of the contract of that number together
 abbrev pub common_with : ℕ → Position → Currencies → BusinessDays → Option ℕ → Trades → Common
@@ -69,5 +83,5 @@ common_of type number names contract = do
   money ← currencies_of type names contract
   days ← business_days_of contract
   market ← code_where false (codes "marketObjectCode") money.1 contract
-  trades ← trades_of contract
+  trades ← trades_of type contract
   Ok (common_with number position money.0 days market.0 trades, market.1)

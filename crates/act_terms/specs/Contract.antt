@@ -4,10 +4,12 @@ use Rattle.act_json.specs.Fields.{field_of}
 use Rattle.act_model.specs.Names.{NameLists}
 use Rattle.act_model.specs.declared.choice.ContractType.{ContractType}
 use Rattle.act_model.specs.declared.choice.ContractType.TheVariants as type
+use Rattle.act_model.specs.declared.terms.Kind.{Kind}
 use Rattle.act_model.specs.declared.terms.Kind.TheVariants as kind
 use Rattle.act_model.specs.declared.terms.Terms.{Terms}
 use Rattle.act_model.specs.Kind.{type_named}
 use Rattle.act_terms.specs.Common.{common_of}
+use Rattle.act_terms.specs.Credit.{cec_of, ceg_of}
 use Rattle.act_terms.specs.Exchange.{fxout_of}
 use Rattle.act_terms.specs.Exercise.{futur_of, optns_of}
 use Rattle.act_terms.specs.Fault.{◌>>=◌, no_object, refused}
@@ -15,10 +17,11 @@ use Rattle.act_terms.specs.Fields.{needed}
 use Rattle.act_terms.specs.Loan.{pam_of}
 use Rattle.act_terms.specs.Names.{contract_id}
 use Rattle.act_terms.specs.Redemption.{ann_of, lam_of, nam_of}
-use Rattle.act_terms.specs.declared.fault.TermCause.TheVariants.{NotBuilt, UnknownKind}
+use Rattle.act_terms.specs.Reference.{Reference}
 use Rattle.act_terms.specs.Structure.{references_of}
+use Rattle.act_terms.specs.Swap.{capfl_of, swaps_of, swppv_of}
+use Rattle.act_terms.specs.declared.fault.TermCause.TheVariants.{UnknownKind}
 use Rattle.act_terms.specs.declared.fault.TermsFault.{TermsFault}
-use Rattle.act_terms.specs.declared.reference.Reference.{Reference}
 use Rattle.serde_json.specs.Data.{Data, object}
 
 -- a contract's name, its terms, and what it refers to in the order of its structure; the terms aren't bound to that yet
@@ -38,72 +41,38 @@ contract_type contract = do
   text ← needed (codes "contractType") (field_of (codes "contractType") contract)
   type_or_refusal (type_named text)
 
--- the terms of a PAM
-unfoldable pub pam_terms_of : ℕ → NameLists → Data → Result (Terms × NameLists) TermsFault
-pam_terms_of number names contract = do
-  common ← common_of type.PAM number names contract
-  pam ← pam_of common.1 contract
-  Ok (record { common = common.0; kind = kind.PAM pam.0 }, pam.1)
+-- ---- the own terms of a type
 
--- the terms of a LAM
-unfoldable pub lam_terms_of : ℕ → NameLists → Data → Result (Terms × NameLists) TermsFault
-lam_terms_of number names contract = do
-  common ← common_of type.LAM number names contract
-  lam ← lam_of common.1 contract
-  Ok (record { common = common.0; kind = kind.LAM lam.0 }, lam.1)
+-- terms that name things, as those of a kind, with the names
+abbrev pub naming_kind : {A : Type 0} → (A → Kind) → Result (A × NameLists) TermsFault → Result (Kind × NameLists) TermsFault
+naming_kind kind read = read >>= (λ terms. Ok (kind terms.0, terms.1))
 
--- the terms of a NAM
-unfoldable pub nam_terms_of : ℕ → NameLists → Data → Result (Terms × NameLists) TermsFault
-nam_terms_of number names contract = do
-  common ← common_of type.NAM number names contract
-  nam ← nam_of common.1 contract
-  Ok (record { common = common.0; kind = kind.NAM nam.0 }, nam.1)
+-- terms that name nothing, as those of a kind
+abbrev pub plain_kind : {A : Type 0} → (A → Kind) → NameLists → Result A TermsFault → Result (Kind × NameLists) TermsFault
+plain_kind kind names read = read >>= (λ terms. Ok (kind terms, names))
 
--- the terms of an ANN
-unfoldable pub ann_terms_of : ℕ → NameLists → Data → Result (Terms × NameLists) TermsFault
-ann_terms_of number names contract = do
-  common ← common_of type.ANN number names contract
-  ann ← ann_of common.1 contract
-  Ok (record { common = common.0; kind = kind.ANN ann.0 }, ann.1)
+-- the own terms of a type, and the names with those that they give
+unfoldable pub kind_of : ContractType → NameLists → Data → Result (Kind × NameLists) TermsFault
+kind_of type.PAM names contract = naming_kind kind.PAM (pam_of names contract)
+kind_of type.LAM names contract = naming_kind kind.LAM (lam_of names contract)
+kind_of type.NAM names contract = naming_kind kind.NAM (nam_of names contract)
+kind_of type.ANN names contract = naming_kind kind.ANN (ann_of names contract)
+kind_of type.STK names contract = Ok (kind.STK (record {}), names)
+kind_of type.FXOUT names contract = naming_kind kind.FXOUT (fxout_of names contract)
+kind_of type.SWPPV names contract = naming_kind kind.SWPPV (swppv_of names contract)
+kind_of type.SWAPS names contract = plain_kind kind.SWAPS names (swaps_of contract)
+kind_of type.CAPFL names contract = plain_kind kind.CAPFL names (capfl_of contract)
+kind_of type.OPTNS names contract = plain_kind kind.OPTNS names (optns_of contract)
+kind_of type.FUTUR names contract = plain_kind kind.FUTUR names (futur_of contract)
+kind_of type.CEG names contract = plain_kind kind.CEG names (ceg_of contract)
+kind_of type.CEC names contract = plain_kind kind.CEC names (cec_of contract)
 
--- the terms of a STK, which has none of its own
-unfoldable pub stk_terms_of : ℕ → NameLists → Data → Result (Terms × NameLists) TermsFault
-stk_terms_of number names contract = do
-  common ← common_of type.STK number names contract
-  Ok (record { common = common.0; kind = kind.STK (record {}) }, common.1)
-
--- the terms of a FXOUT
-unfoldable pub fxout_terms_of : ℕ → NameLists → Data → Result (Terms × NameLists) TermsFault
-fxout_terms_of number names contract = do
-  common ← common_of type.FXOUT number names contract
-  fxout ← fxout_of common.1 contract
-  Ok (record { common = common.0; kind = kind.FXOUT fxout.0 }, fxout.1)
-
--- the terms of an OPTNS
-unfoldable pub optns_terms_of : ℕ → NameLists → Data → Result (Terms × NameLists) TermsFault
-optns_terms_of number names contract = do
-  common ← common_of type.OPTNS number names contract
-  optns ← optns_of contract
-  Ok (record { common = common.0; kind = kind.OPTNS optns }, common.1)
-
--- the terms of a FUTUR
-unfoldable pub futur_terms_of : ℕ → NameLists → Data → Result (Terms × NameLists) TermsFault
-futur_terms_of number names contract = do
-  common ← common_of type.FUTUR number names contract
-  futur ← futur_of contract
-  Ok (record { common = common.0; kind = kind.FUTUR futur }, common.1)
-
--- the terms of a type; those of another type than these aren't read yet
+-- the terms of a contract of a type and number, and the names with those that they give: those that every contract has, and then its own
 unfoldable pub terms_of : ContractType → ℕ → NameLists → Data → Result (Terms × NameLists) TermsFault
-terms_of type.PAM number names contract = pam_terms_of number names contract
-terms_of type.LAM number names contract = lam_terms_of number names contract
-terms_of type.NAM number names contract = nam_terms_of number names contract
-terms_of type.ANN number names contract = ann_terms_of number names contract
-terms_of type.STK number names contract = stk_terms_of number names contract
-terms_of type.FXOUT number names contract = fxout_terms_of number names contract
-terms_of type.OPTNS number names contract = optns_terms_of number names contract
-terms_of type.FUTUR number names contract = futur_terms_of number names contract
-terms_of other number names contract = refused NotBuilt (codes "contractType")
+terms_of type number names contract = do
+  common ← common_of type number names contract
+  own ← kind_of type common.1 contract
+  Ok (record { common = common.0; kind = own.0 }, own.1)
 
 -- the name, the terms and the references of an object
 unfoldable pub named_terms_of : ℕ → NameLists → Data → Result (NamedTerms × NameLists) TermsFault

@@ -4,7 +4,7 @@ use Rattle.act_json.specs.declared.fault.JsonFault.{JsonFault}
 use Rattle.act_json.specs.declared.fault.JsonFault.TheVariants as json
 use Rattle.act_profile.specs.Outcomes.{then_ok}
 use Rattle.act_terms.specs.declared.fault.TermCause.{TermCause}
-use Rattle.act_terms.specs.declared.fault.TermCause.TheVariants.{WrongShape, MissingTerm, BadValue, BadName, UnknownKind, NotBuilt}
+use Rattle.act_terms.specs.declared.fault.TermCause.TheVariants.{WrongShape, MissingTerm, BadValue, BadName, UnknownKind}
 use Rattle.act_terms.specs.declared.fault.TermsFault.{TermsFault}
 use Rattle.act_terms.specs.declared.fault.TermsFault.TheVariants.{Refused, NoMemory}
 
@@ -38,7 +38,6 @@ refusal_number MissingTerm = 12
 refusal_number BadValue = 13
 refusal_number BadName = 14
 refusal_number UnknownKind = 15
-refusal_number NotBuilt = 24
 
 -- a contract that isn't even an object
 abbrev pub no_object : {A : Type 0} → Result A TermsFault

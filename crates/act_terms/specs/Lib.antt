@@ -1,13 +1,17 @@
 pub mod Choices
 pub mod Common
 pub mod Contract
+pub mod Credit
 pub mod Exchange
 pub mod Exercise
 pub mod Fault
 pub mod Fields
+pub mod Inline
 pub mod Loan
 pub mod Names
 pub mod Redemption
+pub mod Reference
 pub mod Refusal
 pub mod Structure
+pub mod Swap
 pub mod Used

@@ -1,7 +1,6 @@
 -- What a contract refers to: the elements of its contractStructure. The names are those of the ACTUS data dictionary; the shapes, the refusals and
 -- their order are this profile's own. Each refusal is of the term contractStructure.
 use Rattle.std.specs.Prelude.{ℕ, if◌then◌else◌, Bool, true, false, List, [], ◌∷◌, codes, Option, Some, None, Result, Ok}
-use Rattle.std.specs.List.{list_any}
 use Rattle.act_json.specs.Fields.{field_of}
 use Rattle.act_json.specs.declared.fault.JsonFault.{JsonFault}
 use Rattle.act_model.specs.Name.{is_name}
@@ -11,14 +10,12 @@ use Rattle.act_model.specs.declared.choice.ContractType.TheVariants as type
 use Rattle.act_terms.specs.Choices.{reference_role_named, reference_type_named}
 use Rattle.act_terms.specs.Fault.{◌>>=◌, refused}
 use Rattle.act_terms.specs.Fields.{choice_field}
+use Rattle.act_terms.specs.Reference.{Reference, Target, to_contract, to_market}
 use Rattle.act_terms.specs.declared.fault.TermCause.{TermCause}
-use Rattle.act_terms.specs.declared.fault.TermCause.TheVariants.{WrongShape, MissingTerm, BadValue, BadName, NotBuilt}
+use Rattle.act_terms.specs.declared.fault.TermCause.TheVariants.{WrongShape, MissingTerm, BadValue, BadName}
 use Rattle.act_terms.specs.declared.fault.TermsFault.{TermsFault}
-use Rattle.act_terms.specs.declared.reference.Reference.{Reference}
 use Rattle.act_terms.specs.declared.reference.ReferenceType.{ReferenceType}
 use Rattle.act_terms.specs.declared.reference.ReferenceType.TheVariants.{CNT, CID, MOC}
-use Rattle.act_terms.specs.declared.reference.Referred.{Referred}
-use Rattle.act_terms.specs.declared.reference.Referred.TheVariants.{Contract, Market}
 use Rattle.serde_json.specs.Data.{Data, null, string, array, object, Items, no_items, item}
 use Rattle.serde_json.specs.Find.{get}
 
@@ -65,32 +62,38 @@ contract_text element = contract_text_of (inner_object element) element
 
 -- ---- what is referred to
 
--- a contract that stands in the element
-abbrev pub contract_inside_by : Option Data → Result Referred TermsFault
-contract_inside_by (Some inner) = Ok Contract
+-- the text of a field, or none
+abbrev pub text_or_none : Result (Option (List ℕ)) JsonFault → List ℕ
+text_or_none (Ok (Some text)) = text
+text_or_none other = []
+
+-- a contract that stands in the element, by the name that it gives itself. Where it gives no name, it is refused for that, behind the one in which it
+-- stands
+abbrev pub contract_inside_by : Option Data → Result Target TermsFault
+contract_inside_by (Some inner) = Ok (to_contract (text_or_none (field_of (codes "contractID") inner)))
 contract_inside_by None = bad_structure WrongShape
 
-unfoldable pub contract_inside : Data → Result Referred TermsFault
+unfoldable pub contract_inside : Data → Result Target TermsFault
 contract_inside element = contract_inside_by (inner_object element)
 
 -- a contract that the element names
-unfoldable pub contract_named : Data → Result Referred TermsFault
+unfoldable pub contract_named : Data → Result Target TermsFault
 contract_named element = do
   name ← name_or_refusal (contract_text element)
-  Ok Contract
+  Ok (to_contract name)
 
 -- a market object, by the number of its code, and the names with it
-unfoldable pub market_named : NameLists → Data → Result (Referred × NameLists) TermsFault
+unfoldable pub market_named : NameLists → Data → Result (Target × NameLists) TermsFault
 market_named names element = do
   code ← name_or_refusal (market_text element)
-  Ok (Market (number_of code names.codes), record names { codes = with_name code names.codes })
+  Ok (to_market (number_of code names.codes), record names { codes = with_name code names.codes })
 
 -- what was read, with names that it adds none to
 abbrev pub with_names : {A : Type 0} → NameLists → Result A TermsFault → Result (A × NameLists) TermsFault
 with_names names read = read >>= (λ value. Ok (value, names))
 
 -- what an element of that type refers to, and the names with it
-unfoldable pub referred_of : ReferenceType → NameLists → Data → Result (Referred × NameLists) TermsFault
+unfoldable pub referred_of : ReferenceType → NameLists → Data → Result (Target × NameLists) TermsFault
 referred_of CNT names element = with_names names (contract_inside element)
 referred_of CID names element = with_names names (contract_named element)
 referred_of MOC names element = market_named names element
@@ -141,31 +144,20 @@ elements_in (Some other) = bad_structure WrongShape
 unfoldable pub elements_of : Data → Result (List Data) TermsFault
 elements_of contract = elements_in (get (codes "contractStructure") contract)
 
--- a reference to a contract
-abbrev pub is_contract : Referred → Bool
-is_contract Contract = true
-is_contract (Market code) = false
-
--- one of the references is to a contract
-abbrev pub refer_to_contract : List Reference → Bool
-refer_to_contract references = list_any (λ (r : Reference). is_contract r.object) references
-
--- references to contracts aren't built yet
-abbrev pub without_contracts : List Reference → Result (List Reference) TermsFault
-without_contracts references = if refer_to_contract references then bad_structure NotBuilt else Ok references
-
 -- the references of a structure, and the names with the codes that they give
 unfoldable pub structure_of : NameLists → Data → Result (List Reference × NameLists) TermsFault
 structure_of names contract = do
   elements ← elements_of contract
-  read ← references_from names elements
-  references ← without_contracts read.0
-  Ok (references, read.1)
+  references_from names elements
 
 -- the types that use contractStructure
 abbrev pub has_structure : ContractType → Bool
+has_structure type.SWAPS = true
+has_structure type.CAPFL = true
 has_structure type.OPTNS = true
 has_structure type.FUTUR = true
+has_structure type.CEG = true
+has_structure type.CEC = true
 has_structure other = false
 
 -- the references of a contract of a type; of one that doesn't use contractStructure nothing is read

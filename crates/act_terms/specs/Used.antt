@@ -4,6 +4,7 @@ use Rattle.std.specs.List.{filter, list_any}
 use Rattle.std.specs.Str.{bytes_eq}
 use Rattle.act_model.specs.declared.choice.ContractType.{ContractType}
 use Rattle.act_model.specs.declared.choice.ContractType.TheVariants as type
+use Rattle.act_terms.specs.Common.{may_trade}
 use Rattle.act_terms.specs.Names.{may_settle}
 use Rattle.serde_json.specs.Data.{Data, object, Members, no_members, member}
 
@@ -11,7 +12,7 @@ use Rattle.serde_json.specs.Data.{Data, object, Members, no_members, member}
 abbrev pub common_terms : List (List ℕ)
 common_terms =
     codes "contractID" ∷ codes "contractType" ∷ codes "contractRole" ∷ codes "statusDate" ∷ codes "currency" ∷ codes "calendar" ∷ codes "businessDayConvention" ∷ codes "endOfMonthConvention"
-    ∷ codes "marketObjectCode" ∷ codes "purchaseDate" ∷ codes "priceAtPurchaseDate" ∷ codes "terminationDate" ∷ codes "priceAtTerminationDate" ∷ []
+    ∷ codes "marketObjectCode" ∷ []
 
 -- the terms of every loan
 abbrev pub loan_terms : List (List ℕ)
@@ -41,28 +42,57 @@ option_terms =
 abbrev pub future_terms : List (List ℕ)
 future_terms = codes "maturityDate" ∷ codes "futuresPrice" ∷ codes "settlementPeriod" ∷ codes "contractStructure" ∷ []
 
+-- the terms of a plain swap
+abbrev pub plain_swap_terms : List (List ℕ)
+plain_swap_terms =
+    codes "initialExchangeDate" ∷ codes "maturityDate" ∷ codes "notionalPrincipal" ∷ codes "nominalInterestRate" ∷ codes "nominalInterestRate2" ∷ codes "dayCountConvention"
+    ∷ codes "cycleAnchorDateOfInterestPayment" ∷ codes "cycleOfInterestPayment" ∷ codes "cycleAnchorDateOfRateReset" ∷ codes "cycleOfRateReset" ∷ codes "marketObjectCodeOfRateReset"
+    ∷ codes "nextResetRate" ∷ codes "rateSpread" ∷ codes "rateMultiplier" ∷ codes "lifeCap" ∷ codes "lifeFloor" ∷ codes "periodCap" ∷ codes "periodFloor" ∷ []
+
+-- the terms of a swap of two contracts
+abbrev pub swap_terms : List (List ℕ)
+swap_terms = codes "deliverySettlement" ∷ codes "contractStructure" ∷ []
+
+-- the terms of a cap and floor
+abbrev pub cap_terms : List (List ℕ)
+cap_terms = codes "maturityDate" ∷ codes "lifeCap" ∷ codes "lifeFloor" ∷ codes "contractStructure" ∷ []
+
+-- the terms of a guarantee, also by collateral
+abbrev pub guarantee_terms : List (List ℕ)
+guarantee_terms =
+    codes "maturityDate" ∷ codes "coverageOfCreditEnhancement" ∷ codes "guaranteedExposure" ∷ codes "creditEventTypeCovered" ∷ codes "settlementPeriod" ∷ codes "contractStructure" ∷ []
+
 -- a name is one of some names
 abbrev pub is_among : List (List ℕ) → List ℕ → Bool
 is_among names name = list_any (λ n. bytes_eq n name) names
 
--- the terms of a type beside those that every contract has; of a type that isn't read yet there are none
+-- the terms of a type beside those that it shares with others
 abbrev pub own_terms : ContractType → List (List ℕ)
 own_terms type.PAM = loan_terms
 own_terms type.LAM = loan_terms ++ redemption_terms
 own_terms type.NAM = loan_terms ++ redemption_terms
 own_terms type.ANN = loan_terms ++ redemption_terms
+own_terms type.STK = []
 own_terms type.FXOUT = outright_terms
+own_terms type.SWPPV = plain_swap_terms
+own_terms type.SWAPS = swap_terms
+own_terms type.CAPFL = cap_terms
 own_terms type.OPTNS = option_terms
 own_terms type.FUTUR = future_terms
-own_terms other = []
+own_terms type.CEG = guarantee_terms
+own_terms type.CEC = guarantee_terms
 
 -- settlementCurrency, which is read behind currency, of a type that uses it
 abbrev pub settlement_terms : ContractType → List (List ℕ)
 settlement_terms type = if may_settle type then codes "settlementCurrency" ∷ [] else []
 
+-- the terms of purchase and termination, of a type that uses them
+abbrev pub trade_terms : ContractType → List (List ℕ)
+trade_terms type = if may_trade type then codes "purchaseDate" ∷ codes "priceAtPurchaseDate" ∷ codes "terminationDate" ∷ codes "priceAtTerminationDate" ∷ [] else []
+
 -- the terms that a type shares with others
 abbrev pub shared_terms : ContractType → List (List ℕ)
-shared_terms type = common_terms ++ settlement_terms type
+shared_terms type = common_terms ++ settlement_terms type ++ trade_terms type
 
 -- the terms of a type
 abbrev pub terms_named : ContractType → List (List ℕ)

@@ -3,15 +3,15 @@ ghost use Rattle.std.specs.Prelude.{◌≡◌, ℕ, ◌||◌, ◌==◌, List, Op
 ghost use Rattle.std.specs.Option.{ok_or};
 ghost use Rattle.serde_json.specs.View.{view};
 ghost use Rattle.act_json.specs.Results.{result_map};
-ghost use Rattle.act_terms.specs.Choices.{among, calculation_base_named, calendar_named, convention_named, day_count_named, delivery_named, exercise_type_named, fee_basis_named, is_none, month_rule_named, option_type_named, penalty_type_named, reference_role_named, reference_type_named, role_named, scaling_effect_named};
+ghost use Rattle.act_terms.specs.Choices.{among, calculation_base_named, calendar_named, convention_named, credit_event_named, day_count_named, delivery_named, exercise_type_named, exposure_named, fee_basis_named, is_none, month_rule_named, option_type_named, penalty_type_named, reference_role_named, reference_type_named, role_named, scaling_effect_named};
 ghost use Rattle.act_terms.specs.Fields.{choice_field};
 
 use crate::reference::{ReferenceRole, ReferenceType};
 use act_date::{Calendar, Convention, DayCount, MonthRule};
 use act_json::{JsonFault, text_in};
 use act_model::{
-    ContractRole, DeliverySettlement, ExerciseType, FeeBasis, InterestCalculationBase, OptionType,
-    PenaltyType, ScalingEffect,
+    ContractRole, DeliverySettlement, ExerciseType, FeeBasis, GuaranteedExposure,
+    InterestCalculationBase, ObsKind, OptionType, PenaltyType, ScalingEffect,
 };
 use serde_json::Value;
 
@@ -98,6 +98,20 @@ const EXERCISE_TYPES: [(&str, ExerciseType); 3] = [
     ("E", ExerciseType::E),
     ("A", ExerciseType::A),
     ("B", ExerciseType::B),
+];
+
+/// What the exposure of a covered contract may be, by the names.
+const EXPOSURES: [(&str, GuaranteedExposure); 3] = [
+    ("NO", GuaranteedExposure::NO),
+    ("NI", GuaranteedExposure::NI),
+    ("MV", GuaranteedExposure::MV),
+];
+
+/// The credit events, by their names.
+const CREDIT_EVENTS: [(&str, ObsKind); 3] = [
+    ("DL", ObsKind::DL),
+    ("DQ", ObsKind::DQ),
+    ("DF", ObsKind::DF),
 ];
 
 /// What a reference may be to, by the names.
@@ -256,6 +270,24 @@ impl Choice for ExerciseType {
     #[tactic(auto, unfolding(crate::specs::Choices::exercise_type_named))]
     fn named(text: &str) -> Option<ExerciseType> {
         among(&EXERCISE_TYPES, text)
+    }
+}
+
+impl Choice for GuaranteedExposure {
+    ghost named = { exposure_named };
+
+    #[tactic(auto, unfolding(crate::specs::Choices::exposure_named))]
+    fn named(text: &str) -> Option<GuaranteedExposure> {
+        among(&EXPOSURES, text)
+    }
+}
+
+impl Choice for ObsKind {
+    ghost named = { credit_event_named };
+
+    #[tactic(auto, unfolding(crate::specs::Choices::credit_event_named))]
+    fn named(text: &str) -> Option<ObsKind> {
+        among(&CREDIT_EVENTS, text)
     }
 }
 

@@ -1,7 +1,7 @@
 //! The terms that every contract has.
 ghost use Rattle.std.specs.Prelude.{◌≡◌, ◌≢◌, Ok, Err, IfOk, IfErr};
 ghost use Rattle.serde_json.specs.View.{view};
-ghost use Rattle.act_terms.specs.Common.{business_days_of, common_of, position_of, trades_of};
+ghost use Rattle.act_terms.specs.Common.{business_days_of, common_of, given_trades_of, may_trade, position_of, trades_of};
 
 use crate::choices::choice_in;
 use crate::currencies::{code_where, read_currencies};
@@ -54,7 +54,7 @@ pub(crate) fn read_common(
     let money = read_currencies(alloc, contract_type, contract, names)?;
     let days = read_business_days(contract)?;
     let market_object_code = code_where(alloc, false, "marketObjectCode", contract, names)?;
-    let trades = read_trades(contract)?;
+    let trades = read_trades(contract_type, contract)?;
     Ok(Common {
         contract: number,
         underlying: None,
@@ -106,10 +106,36 @@ fn read_business_days(contract: &Value) -> Result<BusinessDays, TermsFault>
     })
 }
 
-/// Purchase and termination.
+/// Whether contracts of a type may be bought and sold.
+pub(crate) fn may_trade(contract_type: ContractType) -> bool
+    ensures { result ≡ may_trade contract_type }
+{
+    match contract_type {
+        ContractType::CEG | ContractType::CEC => false,
+        _ => true,
+    }
+}
+
+/// Purchase and termination, of a type that has them.
 #[tactic(auto, unfolding(crate::specs::Common::trades_of))]
-fn read_trades(contract: &Value) -> Result<Trades, TermsFault>
-    ensures { result ≡ trades_of (view contract.now) }
+fn read_trades(contract_type: ContractType, contract: &Value) -> Result<Trades, TermsFault>
+    ensures { result ≡ trades_of contract_type (view contract.now) }
+{
+    if may_trade(contract_type) {
+        return given_trades(contract);
+    }
+    Ok(Trades {
+        purchase_date: None,
+        price_at_purchase_date: Fixed::ZERO,
+        termination_date: None,
+        price_at_termination_date: Fixed::ZERO,
+    })
+}
+
+/// Purchase and termination.
+#[tactic(auto, unfolding(crate::specs::Common::given_trades_of))]
+fn given_trades(contract: &Value) -> Result<Trades, TermsFault>
+    ensures { result ≡ given_trades_of (view contract.now) }
 {
     let purchase = optional_day(contract, "purchaseDate")?;
     let purchase_price = optional_decimal(contract, "priceAtPurchaseDate")?;

@@ -4,9 +4,10 @@ ghost use Rattle.std.specs.Str.{bytes_eq};
 ghost use Rattle.serde_json.specs.View.{view};
 ghost use Rattle.act_profile.specs.Built.{IsBuilt};
 ghost use Rattle.act_model.specs.Name.{is_name};
-ghost use Rattle.act_terms.specs.Contract.{ann_terms_of, contract_of, contract_type, futur_terms_of, fxout_terms_of, lam_terms_of, nam_terms_of, named_terms_of, optns_terms_of, pam_terms_of, stk_terms_of, terms_of};
+ghost use Rattle.act_terms.specs.Contract.{contract_of, contract_type, kind_of, named_terms_of, terms_of};
 
 use crate::common::read_common;
+use crate::credit::{read_cec, read_ceg};
 use crate::currencies::contract_id;
 use crate::exchange::read_fxout;
 use crate::exercise::{read_futur, read_optns};
@@ -16,6 +17,7 @@ use crate::loan::read_pam;
 use crate::redemption::{read_ann, read_lam, read_nam};
 use crate::reference::Reference;
 use crate::structure::read_references;
+use crate::swap::{read_capfl, read_swaps, read_swppv};
 use act_json::text_in;
 use act_model::{ContractType, Kind, Names, Stk, Terms};
 use serde_json::Value;
@@ -27,8 +29,8 @@ use std::marker::Model;
 pub struct NamedTerms {
     /// The name: 1 to 64 printable ASCII characters without space, and no star alone.
     pub id: String,
-    /// The terms. Days count from 1970-01-01, and decimals are in units of 10^-9. What a term is bound to by the references, as
-    /// an option's underlying, is 0 in them.
+    /// The terms. Days count from 1970-01-01, and decimals are in units of 10^-9. What the references bind in them, as an
+    /// option's underlying or a swap's legs, is 0 or empty.
     pub terms: Terms,
     /// What the contract refers to, in the order of its structure.
     pub references: Vec<Reference>,
@@ -50,10 +52,9 @@ impl Model for NamedTerms {
 ///
 /// Refused where a term is, with the first one in the order of this profile's tables: first the terms that every
 /// contract has, then those of its kind; that a penalty of lost interest needs the code of the reset rate is tried
-/// behind the terms that all loans have, and before those of redemption, and the structure comes behind all other terms. A
-/// type that isn't built yet is refused where an unknown one is, and a reference to a contract, which isn't built yet
-/// either, behind the whole structure. NoMemory where memory runs out. Where it isn't read, codes and currencies may have
-/// been added all the same.
+/// behind the terms that all loans have, and before those of redemption, and the structure comes behind all other terms.
+/// Contracts that stand in the structure aren't read here; [`in_portfolio_order`](crate::in_portfolio_order) has them. NoMemory where memory runs
+/// out. Where it isn't read, codes and currencies may have been added all the same.
 #[tactic(auto, unfolding(crate::specs::Contract::contract_of))]
 pub fn read_contract(
     alloc: Global,
@@ -103,7 +104,7 @@ fn read_named_terms(
 
 /// The type of a contract.
 #[tactic(auto, unfolding(crate::specs::Contract::contract_type))]
-fn contract_type(contract: &Value) -> Result<ContractType, TermsFault>
+pub(crate) fn contract_type(contract: &Value) -> Result<ContractType, TermsFault>
     ensures { result ≡ contract_type (view contract.now) }
 {
     let text = needed("contractType", text_in(contract, "contractType"))?;
@@ -113,7 +114,7 @@ fn contract_type(contract: &Value) -> Result<ContractType, TermsFault>
     }
 }
 
-/// The terms of a type; those of another type than these aren't read yet.
+/// The terms of a type: those that every contract has, and then its own.
 #[tactic(auto, unfolding(crate::specs::Contract::terms_of))]
 fn read_terms(
     alloc: Global,
@@ -127,182 +128,37 @@ fn read_terms(
         → terms_of contract_type number names.old (view contract.now) ≡ Err fault) }
     ensures built { IfOk result (λ terms. IsBuilt terms.kind) }
 {
+    let common = read_common(alloc, contract_type, contract, number, names)?;
+    let kind = read_kind(alloc, contract_type, contract, names)?;
+    Ok(Terms { common, kind })
+}
+
+/// The own terms of a type.
+#[tactic(auto, unfolding(crate::specs::Contract::kind_of))]
+fn read_kind(
+    alloc: Global,
+    contract_type: ContractType,
+    contract: &Value,
+    names: &mut Names,
+) -> Result<Kind, TermsFault>
+    ensures read { IfOk result (λ kind. kind_of contract_type names.old (view contract.now) ≡ Ok (kind, names.new)) }
+    ensures refused { IfErr result (λ fault. fault ≢ TermsFault.NoMemory
+        → kind_of contract_type names.old (view contract.now) ≡ Err fault) }
+    ensures built { IfOk result (λ kind. IsBuilt kind) }
+{
     match contract_type {
-        ContractType::PAM => read_pam_terms(alloc, contract, number, names),
-        ContractType::LAM => read_lam_terms(alloc, contract, number, names),
-        ContractType::NAM => read_nam_terms(alloc, contract, number, names),
-        ContractType::ANN => read_ann_terms(alloc, contract, number, names),
-        ContractType::STK => read_stk_terms(alloc, contract, number, names),
-        ContractType::FXOUT => read_fxout_terms(alloc, contract, number, names),
-        ContractType::OPTNS => read_optns_terms(alloc, contract, number, names),
-        ContractType::FUTUR => read_futur_terms(alloc, contract, number, names),
-        _ => Err(refused(TermCause::NotBuilt, "contractType")),
+        ContractType::PAM => Ok(Kind::PAM(read_pam(alloc, contract, names)?)),
+        ContractType::LAM => Ok(Kind::LAM(read_lam(alloc, contract, names)?)),
+        ContractType::NAM => Ok(Kind::NAM(read_nam(alloc, contract, names)?)),
+        ContractType::ANN => Ok(Kind::ANN(read_ann(alloc, contract, names)?)),
+        ContractType::STK => Ok(Kind::STK(Stk {})),
+        ContractType::FXOUT => Ok(Kind::FXOUT(read_fxout(alloc, contract, names)?)),
+        ContractType::SWPPV => Ok(Kind::SWPPV(read_swppv(alloc, contract, names)?)),
+        ContractType::SWAPS => Ok(Kind::SWAPS(read_swaps(contract)?)),
+        ContractType::CAPFL => Ok(Kind::CAPFL(read_capfl(contract)?)),
+        ContractType::OPTNS => Ok(Kind::OPTNS(read_optns(contract)?)),
+        ContractType::FUTUR => Ok(Kind::FUTUR(read_futur(contract)?)),
+        ContractType::CEG => Ok(Kind::CEG(read_ceg(alloc, contract)?)),
+        ContractType::CEC => Ok(Kind::CEC(read_cec(alloc, contract)?)),
     }
-}
-
-/// The terms of a PAM.
-#[tactic(auto, unfolding(crate::specs::Contract::pam_terms_of))]
-fn read_pam_terms(
-    alloc: Global,
-    contract: &Value,
-    number: u32,
-    names: &mut Names,
-) -> Result<Terms, TermsFault>
-    ensures read { IfOk result (λ terms. pam_terms_of number names.old (view contract.now) ≡ Ok (terms, names.new)) }
-    ensures refused { IfErr result (λ fault. fault ≢ TermsFault.NoMemory
-        → pam_terms_of number names.old (view contract.now) ≡ Err fault) }
-    ensures built { IfOk result (λ terms. IsBuilt terms.kind) }
-{
-    let common = read_common(alloc, ContractType::PAM, contract, number, names)?;
-    let pam = read_pam(alloc, contract, names)?;
-    Ok(Terms {
-        common,
-        kind: Kind::PAM(pam),
-    })
-}
-
-/// The terms of a LAM.
-#[tactic(auto, unfolding(crate::specs::Contract::lam_terms_of))]
-fn read_lam_terms(
-    alloc: Global,
-    contract: &Value,
-    number: u32,
-    names: &mut Names,
-) -> Result<Terms, TermsFault>
-    ensures read { IfOk result (λ terms. lam_terms_of number names.old (view contract.now) ≡ Ok (terms, names.new)) }
-    ensures refused { IfErr result (λ fault. fault ≢ TermsFault.NoMemory
-        → lam_terms_of number names.old (view contract.now) ≡ Err fault) }
-    ensures built { IfOk result (λ terms. IsBuilt terms.kind) }
-{
-    let common = read_common(alloc, ContractType::LAM, contract, number, names)?;
-    let lam = read_lam(alloc, contract, names)?;
-    Ok(Terms {
-        common,
-        kind: Kind::LAM(lam),
-    })
-}
-
-/// The terms of a NAM.
-#[tactic(auto, unfolding(crate::specs::Contract::nam_terms_of))]
-fn read_nam_terms(
-    alloc: Global,
-    contract: &Value,
-    number: u32,
-    names: &mut Names,
-) -> Result<Terms, TermsFault>
-    ensures read { IfOk result (λ terms. nam_terms_of number names.old (view contract.now) ≡ Ok (terms, names.new)) }
-    ensures refused { IfErr result (λ fault. fault ≢ TermsFault.NoMemory
-        → nam_terms_of number names.old (view contract.now) ≡ Err fault) }
-    ensures built { IfOk result (λ terms. IsBuilt terms.kind) }
-{
-    let common = read_common(alloc, ContractType::NAM, contract, number, names)?;
-    let nam = read_nam(alloc, contract, names)?;
-    Ok(Terms {
-        common,
-        kind: Kind::NAM(nam),
-    })
-}
-
-/// The terms of an ANN.
-#[tactic(auto, unfolding(crate::specs::Contract::ann_terms_of))]
-fn read_ann_terms(
-    alloc: Global,
-    contract: &Value,
-    number: u32,
-    names: &mut Names,
-) -> Result<Terms, TermsFault>
-    ensures read { IfOk result (λ terms. ann_terms_of number names.old (view contract.now) ≡ Ok (terms, names.new)) }
-    ensures refused { IfErr result (λ fault. fault ≢ TermsFault.NoMemory
-        → ann_terms_of number names.old (view contract.now) ≡ Err fault) }
-    ensures built { IfOk result (λ terms. IsBuilt terms.kind) }
-{
-    let common = read_common(alloc, ContractType::ANN, contract, number, names)?;
-    let ann = read_ann(alloc, contract, names)?;
-    Ok(Terms {
-        common,
-        kind: Kind::ANN(ann),
-    })
-}
-
-/// The terms of a STK, which has none of its own.
-#[tactic(auto, unfolding(crate::specs::Contract::stk_terms_of))]
-fn read_stk_terms(
-    alloc: Global,
-    contract: &Value,
-    number: u32,
-    names: &mut Names,
-) -> Result<Terms, TermsFault>
-    ensures read { IfOk result (λ terms. stk_terms_of number names.old (view contract.now) ≡ Ok (terms, names.new)) }
-    ensures refused { IfErr result (λ fault. fault ≢ TermsFault.NoMemory
-        → stk_terms_of number names.old (view contract.now) ≡ Err fault) }
-    ensures built { IfOk result (λ terms. IsBuilt terms.kind) }
-{
-    let common = read_common(alloc, ContractType::STK, contract, number, names)?;
-    Ok(Terms {
-        common,
-        kind: Kind::STK(Stk {}),
-    })
-}
-
-/// The terms of a FXOUT.
-#[tactic(auto, unfolding(crate::specs::Contract::fxout_terms_of))]
-fn read_fxout_terms(
-    alloc: Global,
-    contract: &Value,
-    number: u32,
-    names: &mut Names,
-) -> Result<Terms, TermsFault>
-    ensures read { IfOk result (λ terms. fxout_terms_of number names.old (view contract.now) ≡ Ok (terms, names.new)) }
-    ensures refused { IfErr result (λ fault. fault ≢ TermsFault.NoMemory
-        → fxout_terms_of number names.old (view contract.now) ≡ Err fault) }
-    ensures built { IfOk result (λ terms. IsBuilt terms.kind) }
-{
-    let common = read_common(alloc, ContractType::FXOUT, contract, number, names)?;
-    let fxout = read_fxout(alloc, contract, names)?;
-    Ok(Terms {
-        common,
-        kind: Kind::FXOUT(fxout),
-    })
-}
-
-/// The terms of an OPTNS.
-#[tactic(auto, unfolding(crate::specs::Contract::optns_terms_of))]
-fn read_optns_terms(
-    alloc: Global,
-    contract: &Value,
-    number: u32,
-    names: &mut Names,
-) -> Result<Terms, TermsFault>
-    ensures read { IfOk result (λ terms. optns_terms_of number names.old (view contract.now) ≡ Ok (terms, names.new)) }
-    ensures refused { IfErr result (λ fault. fault ≢ TermsFault.NoMemory
-        → optns_terms_of number names.old (view contract.now) ≡ Err fault) }
-    ensures built { IfOk result (λ terms. IsBuilt terms.kind) }
-{
-    let common = read_common(alloc, ContractType::OPTNS, contract, number, names)?;
-    let optns = read_optns(contract)?;
-    Ok(Terms {
-        common,
-        kind: Kind::OPTNS(optns),
-    })
-}
-
-/// The terms of a FUTUR.
-#[tactic(auto, unfolding(crate::specs::Contract::futur_terms_of))]
-fn read_futur_terms(
-    alloc: Global,
-    contract: &Value,
-    number: u32,
-    names: &mut Names,
-) -> Result<Terms, TermsFault>
-    ensures read { IfOk result (λ terms. futur_terms_of number names.old (view contract.now) ≡ Ok (terms, names.new)) }
-    ensures refused { IfErr result (λ fault. fault ≢ TermsFault.NoMemory
-        → futur_terms_of number names.old (view contract.now) ≡ Err fault) }
-    ensures built { IfOk result (λ terms. IsBuilt terms.kind) }
-{
-    let common = read_common(alloc, ContractType::FUTUR, contract, number, names)?;
-    let futur = read_futur(contract)?;
-    Ok(Terms {
-        common,
-        kind: Kind::FUTUR(futur),
-    })
 }

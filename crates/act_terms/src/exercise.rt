@@ -75,7 +75,7 @@ pub(crate) fn read_futur(contract: &Value) -> Result<Futur, TermsFault>
 
 /// The time from exercise to payment.
 #[tactic(auto, unfolding(crate::specs::Exercise::settlement_period_of))]
-fn read_settlement_period(contract: &Value) -> Result<Cycle, TermsFault>
+pub(crate) fn read_settlement_period(contract: &Value) -> Result<Cycle, TermsFault>
     ensures { result ≡ settlement_period_of (view contract.now) }
 {
     let given = optional("settlementPeriod", period(contract, "settlementPeriod"))?;

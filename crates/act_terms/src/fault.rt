@@ -22,9 +22,6 @@ pub enum TermCause {
     BadName = 14,
     /// It is the type of the contract, and no contract has this type.
     UnknownKind = 15,
-    /// It is the type of the contract, and contracts of this type aren't built yet; or a structure that refers to contracts,
-    /// which isn't built yet either.
-    NotBuilt = 24,
 }
 
 impl TermCause {
@@ -38,7 +35,6 @@ impl TermCause {
             TermCause::BadValue => 13,
             TermCause::BadName => 14,
             TermCause::UnknownKind => 15,
-            TermCause::NotBuilt => 24,
         }
     }
 }

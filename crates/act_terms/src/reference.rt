@@ -1,12 +1,22 @@
 //! What a contract refers to.
 
+use std::marker::Model;
+
 /// A reference of a contract: an element of its `contractStructure`.
-#[derive(Clone, Copy)]
+#[derive(Drop)]
 pub struct Reference {
     /// What it is to the contract.
     pub role: ReferenceRole,
     /// What is referred to.
     pub object: Referred,
+}
+
+impl Model for Reference {
+    ghost use Rattle.act_terms.specs.Reference.{Reference, target_of};
+
+    ghost Value = { Reference };
+
+    ghost view = { λ r. record { role = r.role; object = target_of r.object } };
 }
 
 /// What a reference is to the contract that has it.
@@ -25,10 +35,10 @@ pub enum ReferenceRole {
 }
 
 /// What a reference is to.
-#[derive(Clone, Copy, PartialEq, Eq)]
+#[derive(Drop)]
 pub enum Referred {
-    /// A contract. Which one isn't kept, since references to contracts aren't built yet.
-    Contract,
+    /// A contract, by its name. Of a contract that stands in the element it is the text that the contract gives as its name.
+    Contract(String),
     /// A market object, by the number of its code.
     Market(u32),
 }

@@ -1,16 +1,19 @@
 //! The structure of a contract: the elements of its `contractStructure`, each a reference.
-ghost use Rattle.std.specs.Prelude.{◌≡◌, ◌≢◌, Ok, Err, IfOk, IfErr, map, option_map};
+ghost use Rattle.std.specs.Prelude.{◌≡◌, ◌≢◌, Ok, Err, IfOk, IfErr, codes, map, option_map};
 ghost use Rattle.serde_json.specs.View.{view};
+ghost use Rattle.act_json.specs.Fields.{field_of};
 ghost use Rattle.act_json.specs.Results.{result_map};
 ghost use Rattle.act_terms.specs.Fault.{read_map};
 ghost use Rattle.act_terms.specs.Fields.{choice_field};
-ghost use Rattle.act_terms.specs.Structure.{choice_or_refusal, contract_inside, contract_named, contract_text, elements_of, has_structure, inner_object, is_contract, market_named, market_text, refer_to_contract, reference_of, reference_within, references_from, references_of, referred_of, structure_of, without_contracts};
+ghost use Rattle.act_terms.specs.Reference.{target_of, to_contract};
+ghost use Rattle.act_terms.specs.Structure.{choice_or_refusal, contract_inside, contract_named, contract_text, elements_of, has_structure, inner_object, market_named, market_text, reference_of, reference_within, references_from, references_of, referred_of, structure_of, text_or_none};
 
 use crate::choices::{Choice, choice_in};
 use crate::fault::{TermCause, TermsFault, refused};
 use crate::reference::{Reference, ReferenceType, Referred};
 use act_json::{JsonFault, text_in};
 use act_model::{ContractType, Names, is_name};
+use act_num::NoMemory;
 use serde_json::Value;
 use std::alloc::Global;
 
@@ -35,16 +38,18 @@ pub(crate) fn read_references(
 }
 
 /// Whether contracts of a type have a structure.
-fn has_structure(contract_type: ContractType) -> bool
+pub(crate) fn has_structure(contract_type: ContractType) -> bool
     ensures { result ≡ has_structure contract_type }
 {
     match contract_type {
-        ContractType::OPTNS | ContractType::FUTUR => true,
+        ContractType::SWAPS | ContractType::CAPFL | ContractType::OPTNS | ContractType::FUTUR =>
+            true,
+        ContractType::CEG | ContractType::CEC => true,
         _ => false,
     }
 }
 
-/// The references of a structure, none of which may be to a contract yet.
+/// The references of a structure.
 #[tactic(auto, unfolding(crate::specs::Structure::structure_of))]
 fn read_structure(
     alloc: Global,
@@ -56,9 +61,7 @@ fn read_structure(
         → structure_of names.old (view contract.now) ≡ Err fault) }
 {
     let elements = elements(contract)?;
-    let references = read_elements(alloc, elements, names)?;
-    without_contracts(&references)?;
-    Ok(references)
+    read_elements(alloc, elements, names)
 }
 
 /// The elements of a structure, which has to be given and to be a list.
@@ -88,7 +91,7 @@ fn read_elements(
 {
     let mut references = Vec::new(alloc);
     for element in elements {
-        let reference = read_reference(element, names)?;
+        let reference = read_reference(alloc, element, names)?;
         references.push(reference)?;
     }
     Ok(references)
@@ -96,7 +99,11 @@ fn read_elements(
 
 /// The reference that an element is.
 #[tactic(auto, unfolding(crate::specs::Structure::reference_of))]
-fn read_reference(element: &Value, names: &mut Names) -> Result<Reference, TermsFault>
+fn read_reference(
+    alloc: Global,
+    element: &Value,
+    names: &mut Names,
+) -> Result<Reference, TermsFault>
     ensures read { IfOk result (λ reference. reference_of names.old (view element.now) ≡ Ok (reference, names.new)) }
     ensures refused { IfErr result (λ fault. fault ≢ TermsFault.NoMemory
         → reference_of names.old (view element.now) ≡ Err fault) }
@@ -104,19 +111,23 @@ fn read_reference(element: &Value, names: &mut Names) -> Result<Reference, Terms
     if !element.is_object() {
         return Err(refused(TermCause::WrongShape, "contractStructure"));
     }
-    reference_within(element, names)
+    reference_within(alloc, element, names)
 }
 
 /// The reference that the members of an element make.
 #[tactic(auto, unfolding(crate::specs::Structure::reference_within))]
-fn reference_within(element: &Value, names: &mut Names) -> Result<Reference, TermsFault>
+fn reference_within(
+    alloc: Global,
+    element: &Value,
+    names: &mut Names,
+) -> Result<Reference, TermsFault>
     ensures read { IfOk result (λ reference. reference_within names.old (view element.now) ≡ Ok (reference, names.new)) }
     ensures refused { IfErr result (λ fault. fault ≢ TermsFault.NoMemory
         → reference_within names.old (view element.now) ≡ Err fault) }
 {
     let reference_type = chosen_in(element, "referenceType")?;
     let role = chosen_in(element, "referenceRole")?;
-    let object = read_referred(reference_type, element, names)?;
+    let object = read_referred(alloc, reference_type, element, names)?;
     Ok(Reference { role, object })
 }
 
@@ -133,40 +144,60 @@ fn chosen_in<T: Choice>(element: &Value, name: &str) -> Result<T, TermsFault>
 /// What an element of that type refers to.
 #[tactic(auto, unfolding(crate::specs::Structure::referred_of))]
 fn read_referred(
+    alloc: Global,
     reference_type: ReferenceType,
     element: &Value,
     names: &mut Names,
 ) -> Result<Referred, TermsFault>
     ensures read { IfOk result (λ referred.
-        referred_of reference_type names.old (view element.now) ≡ Ok (referred, names.new)) }
+        referred_of reference_type names.old (view element.now) ≡ Ok (target_of referred, names.new)) }
     ensures refused { IfErr result (λ fault. fault ≢ TermsFault.NoMemory
         → referred_of reference_type names.old (view element.now) ≡ Err fault) }
 {
     match reference_type {
-        ReferenceType::CNT => contract_inside(element),
-        ReferenceType::CID => contract_named(element),
+        ReferenceType::CNT => contract_inside(alloc, element),
+        ReferenceType::CID => contract_named(alloc, element),
         ReferenceType::MOC => market_named(element, names),
     }
 }
 
 /// A contract that stands in the element.
 #[tactic(auto, unfolding(crate::specs::Structure::contract_inside))]
-fn contract_inside(element: &Value) -> Result<Referred, TermsFault>
-    ensures { result ≡ contract_inside (view element.now) }
+fn contract_inside(alloc: Global, element: &Value) -> Result<Referred, TermsFault>
+    ensures read { IfOk result (λ referred. contract_inside (view element.now) ≡ Ok (target_of referred)) }
+    ensures refused { IfErr result (λ fault. fault ≢ TermsFault.NoMemory → contract_inside (view element.now) ≡ Err fault) }
 {
     match inner_object(element) {
-        Some(_) => Ok(Referred::Contract),
+        Some(inner) => Ok(to_contract(alloc, own_name(inner))?),
         None => Err(refused(TermCause::WrongShape, "contractStructure")),
     }
 }
 
+/// The text that a contract gives as its name, or none.
+fn own_name(contract: &Value) -> &str
+    ensures { result.now ≡ text_or_none (field_of (codes "contractID") (view contract.now)) }
+{
+    match text_in(contract, "contractID") {
+        Ok(Some(name)) => name,
+        Ok(None) | Err(_) => "",
+    }
+}
+
+/// A contract of that name.
+fn to_contract(alloc: Global, name: &str) -> Result<Referred, NoMemory>
+    ensures { IfOk result (λ referred. target_of referred ≡ to_contract name.now) }
+{
+    Ok(Referred::Contract(String::from_str(alloc, name)?))
+}
+
 /// A contract that the element names.
 #[tactic(auto, unfolding(crate::specs::Structure::contract_named))]
-fn contract_named(element: &Value) -> Result<Referred, TermsFault>
-    ensures { result ≡ contract_named (view element.now) }
+fn contract_named(alloc: Global, element: &Value) -> Result<Referred, TermsFault>
+    ensures read { IfOk result (λ referred. contract_named (view element.now) ≡ Ok (target_of referred)) }
+    ensures refused { IfErr result (λ fault. fault ≢ TermsFault.NoMemory → contract_named (view element.now) ≡ Err fault) }
 {
     match contract_text(element) {
-        Ok(Some(name)) if is_name(name) => Ok(Referred::Contract),
+        Ok(Some(name)) if is_name(name) => Ok(to_contract(alloc, name)?),
         Ok(Some(_)) => Err(refused(TermCause::BadName, "contractStructure")),
         Ok(None) | Err(_) => Err(refused(TermCause::WrongShape, "contractStructure")),
     }
@@ -175,7 +206,7 @@ fn contract_named(element: &Value) -> Result<Referred, TermsFault>
 /// The market object that the element names.
 #[tactic(auto, unfolding(crate::specs::Structure::market_named))]
 fn market_named(element: &Value, names: &mut Names) -> Result<Referred, TermsFault>
-    ensures read { IfOk result (λ referred. market_named names.old (view element.now) ≡ Ok (referred, names.new)) }
+    ensures read { IfOk result (λ referred. market_named names.old (view element.now) ≡ Ok (target_of referred, names.new)) }
     ensures refused { IfErr result (λ fault. fault ≢ TermsFault.NoMemory
         → market_named names.old (view element.now) ≡ Err fault) }
 {
@@ -212,38 +243,11 @@ fn market_text(element: &Value) -> Result<Option<&str>, JsonFault>
 }
 
 /// The member `object` of an element, where it is an object itself.
-fn inner_object(element: &Value) -> Option<&Value>
+pub(crate) fn inner_object(element: &Value) -> Option<&Value>
     ensures { option_map (λ inner. view inner.now) result ≡ inner_object (view element.now) }
 {
     match element.get("object") {
         Some(inner) if inner.is_object() => Some(inner),
         _ => None,
-    }
-}
-
-/// Nothing where no reference is to a contract: such references aren't built yet.
-fn without_contracts(references: &[Reference]) -> Result<(), TermsFault>
-    ensures { read_map (λ _. references.now) result ≡ without_contracts references.now }
-{
-    if refer_to_contract(references) {
-        return Err(refused(TermCause::NotBuilt, "contractStructure"));
-    }
-    Ok(())
-}
-
-/// Whether one of the references is to a contract.
-fn refer_to_contract(references: &[Reference]) -> bool
-    ensures { result ≡ refer_to_contract references.now }
-{
-    references.iter().any(|r| is_contract(r.object))
-}
-
-/// Whether a contract is referred to.
-fn is_contract(object: Referred) -> bool
-    ensures { result ≡ is_contract object }
-{
-    match object {
-        Referred::Contract => true,
-        Referred::Market(_) => false,
     }
 }

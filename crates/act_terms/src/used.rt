@@ -1,8 +1,9 @@
 //! Which names of a contract's object are terms of its type.
 ghost use Rattle.std.specs.Prelude.{◌≡◌, ◌∷◌, ◌++◌, [], IfOk, OnOk, map, string_bytes};
 ghost use Rattle.serde_json.specs.View.{view};
-ghost use Rattle.act_terms.specs.Used.{is_among, is_term_of, own_terms, settlement_terms, shared_terms, unused_names};
+ghost use Rattle.act_terms.specs.Used.{common_terms, is_among, is_term_of, own_terms, settlement_terms, shared_terms, trade_terms, unused_names};
 
+use crate::common::may_trade;
 use crate::currencies::may_settle;
 use act_model::ContractType;
 use act_num::NoMemory;
@@ -10,8 +11,8 @@ use serde_json::Value;
 use std::alloc::Global;
 
 /// The terms that every contract has, in the order in which they are read. All but an outright have `settlementCurrency`
-/// besides.
-const COMMON_TERMS: [&str; 13] = [
+/// besides, and all but guarantees purchase and termination.
+const COMMON_TERMS: [&str; 9] = [
     "contractID",
     "contractType",
     "contractRole",
@@ -21,10 +22,6 @@ const COMMON_TERMS: [&str; 13] = [
     "businessDayConvention",
     "endOfMonthConvention",
     "marketObjectCode",
-    "purchaseDate",
-    "priceAtPurchaseDate",
-    "terminationDate",
-    "priceAtTerminationDate",
 ];
 
 /// The terms of every loan, in the order in which they are read.
@@ -102,9 +99,54 @@ const FUTURE_TERMS: [&str; 4] = [
     "contractStructure",
 ];
 
+/// The terms of purchase and termination, in the order in which they are read.
+const TRADE_TERMS: [&str; 4] = [
+    "purchaseDate",
+    "priceAtPurchaseDate",
+    "terminationDate",
+    "priceAtTerminationDate",
+];
+
+/// The terms of a plain swap, in the order in which they are read.
+const PLAIN_SWAP_TERMS: [&str; 18] = [
+    "initialExchangeDate",
+    "maturityDate",
+    "notionalPrincipal",
+    "nominalInterestRate",
+    "nominalInterestRate2",
+    "dayCountConvention",
+    "cycleAnchorDateOfInterestPayment",
+    "cycleOfInterestPayment",
+    "cycleAnchorDateOfRateReset",
+    "cycleOfRateReset",
+    "marketObjectCodeOfRateReset",
+    "nextResetRate",
+    "rateSpread",
+    "rateMultiplier",
+    "lifeCap",
+    "lifeFloor",
+    "periodCap",
+    "periodFloor",
+];
+
+/// The terms of a swap of two contracts, in the order in which they are read.
+const SWAP_TERMS: [&str; 2] = ["deliverySettlement", "contractStructure"];
+
+/// The terms of a cap and floor, in the order in which they are read.
+const CAP_TERMS: [&str; 4] = ["maturityDate", "lifeCap", "lifeFloor", "contractStructure"];
+
+/// The terms of a guarantee, also by collateral, in the order in which they are read.
+const GUARANTEE_TERMS: [&str; 6] = [
+    "maturityDate",
+    "coverageOfCreditEnhancement",
+    "guaranteedExposure",
+    "creditEventTypeCovered",
+    "settlementPeriod",
+    "contractStructure",
+];
+
 /// The names of a contract's object that aren't terms of that type, in byte order, each once and whatever its value is,
-/// null and the empty text too. Of a type that isn't read yet the terms are those that every contract has. A value that
-/// is no object has no names. NoMemory where memory runs out.
+/// null and the empty text too. A value that is no object has no names. NoMemory where memory runs out.
 #[tactic(auto, using(crate::proofs::TermNames::unused_of), unfolding(crate::specs::Used::unused_names))]
 pub fn unused_names(
     alloc: Global,
@@ -144,6 +186,13 @@ fn is_term_of(contract_type: ContractType, name: &str) -> bool
 fn is_shared_term(contract_type: ContractType, name: &str) -> bool
     ensures { result ≡ is_among (shared_terms contract_type) name.now }
 {
+    is_money_term(contract_type, name) || is_trade_term(contract_type, name)
+}
+
+/// Whether a name is a term that every contract has, or that of the settlement currency, of a type that uses it.
+fn is_money_term(contract_type: ContractType, name: &str) -> bool
+    ensures { result ≡ is_among (common_terms ++ settlement_terms contract_type) name.now }
+{
     is_among(&COMMON_TERMS, name) || is_settlement_term(contract_type, name)
 }
 
@@ -152,6 +201,13 @@ fn is_settlement_term(contract_type: ContractType, name: &str) -> bool
     ensures { result ≡ is_among (settlement_terms contract_type) name.now }
 {
     may_settle(contract_type) && is_among(&["settlementCurrency"], name)
+}
+
+/// Whether a name is that of a term of purchase or termination, of a type that uses them.
+fn is_trade_term(contract_type: ContractType, name: &str) -> bool
+    ensures { result ≡ is_among (trade_terms contract_type) name.now }
+{
+    may_trade(contract_type) && is_among(&TRADE_TERMS, name)
 }
 
 /// Whether a name is a term of that type beside those that it shares with others.
@@ -163,10 +219,14 @@ fn is_own_term(contract_type: ContractType, name: &str) -> bool
         ContractType::LAM | ContractType::NAM | ContractType::ANN => {
             is_among(&LOAN_TERMS, name) || is_among(&REDEMPTION_TERMS, name)
         }
+        ContractType::STK => false,
         ContractType::FXOUT => is_among(&OUTRIGHT_TERMS, name),
+        ContractType::SWPPV => is_among(&PLAIN_SWAP_TERMS, name),
+        ContractType::SWAPS => is_among(&SWAP_TERMS, name),
+        ContractType::CAPFL => is_among(&CAP_TERMS, name),
         ContractType::OPTNS => is_among(&OPTION_TERMS, name),
         ContractType::FUTUR => is_among(&FUTURE_TERMS, name),
-        _ => false,
+        ContractType::CEG | ContractType::CEC => is_among(&GUARANTEE_TERMS, name),
     }
 }
 

@@ -33,11 +33,12 @@ unfolding contracts_text
 contracts-next portfolio c terms id name unused count of named without same counted =
     rw (drop-at portfolio.contracts.terms c terms of, drop-at portfolio.names.contracts c id named, drop-at portfolio.unused c unused without, same, counted) refl
 
--- behind the last contract stands nothing
-pub contracts-end : (portfolio : Accepted) (c : ℕ) (ids : List (List ℕ)) (lists : List (List (List ℕ))) → contracts_text portfolio c [] ids lists ≡ []
+-- behind the last name stands nothing
+pub contracts-end : (portfolio : Accepted) (c : ℕ) (terms : List Terms) (lists : List (List (List ℕ))) → contracts_text portfolio c terms [] lists ≡ []
 unfolding contracts_text
-contracts-end portfolio c ids lists = refl
+contracts-end portfolio c [] lists = refl
+contracts-end portfolio c (t ∷ terms) lists = refl
 
-pub contracts-past : (portfolio : Accepted) (c : ℕ) (ids : List (List ℕ)) (lists : List (List (List ℕ))) → length portfolio.contracts.terms ≤ c → contracts_text portfolio c (drop c portfolio.contracts.terms) ids lists ≡ []
-contracts-past portfolio c ids lists past =
-    ap (λ (terms : List Terms). contracts_text portfolio c terms ids lists) (drop_all c portfolio.contracts.terms past) ∙ contracts-end portfolio c ids lists
+pub contracts-past : (portfolio : Accepted) (c : ℕ) (terms : List Terms) (lists : List (List (List ℕ))) → length portfolio.names.contracts ≤ c → contracts_text portfolio c terms (drop c portfolio.names.contracts) lists ≡ []
+contracts-past portfolio c terms lists past =
+    ap (λ (ids : List (List ℕ)). contracts_text portfolio c terms ids lists) (drop_all c portfolio.names.contracts past) ∙ contracts-end portfolio c terms lists

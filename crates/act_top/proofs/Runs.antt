@@ -1,11 +1,8 @@
 -- Runs of contracts from one number on, each with its contract.
-use Rattle.std.proofs.Common.{◌≡◌, ℕ, ◌+◌, ◌-◌, ◌<◌, ◌≤◌, List, [], ◌∷◌, map, suc, ap, arith}
+use Rattle.std.proofs.Common.{◌≡◌, ℕ, ◌+◌, ◌-◌, ◌<◌, ◌≤◌, [], ◌∷◌, map, suc, ap, arith}
 use Rattle.std.specs.List.{range_with_len}
 use Rattle.act_model.specs.Run.{Stream}
-
--- the runs of the contracts from a number on, as far as to another
-abbrev pub runs_from : (ℕ → Stream) → ℕ → ℕ → List (ℕ × Stream)
-runs_from run k end = map (λ (c : ℕ). (c, run c)) (range_with_len k (end - k))
+use Rattle.act_top.specs.Ready.{runs_from}
 
 -- the first of them, and the others
 pub runs-next : (run : ℕ → Stream) (k end : ℕ) → k < end → runs_from run k end ≡ (k, run k) ∷ runs_from run (k + 1) end

@@ -1,7 +1,9 @@
+pub mod Ahead
 pub mod Asked
 pub mod Command
 pub mod Halts
-pub mod Output
-pub mod Ready
 pub mod Jobs
+pub mod Output
+pub mod Reached
+pub mod Ready
 pub mod Written

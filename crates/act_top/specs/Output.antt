@@ -1,6 +1,6 @@
 -- What the commands write, and the status that they end with. This profile's own.
 use Rattle.std.specs.Prelude.{◌≡◌, ℕ, ◌+◌, nat_lt, if◌then◌else◌, Bool, true, false, List, [], ◌∷◌, ◌++◌, length, map, codes, decimal, Option, Some, None, option_map, option_and_then, Result, Ok, Err, ⊤}
-use Rattle.std.specs.List.{count_by, flat_map, list_all, range_with_len, sum, sum_by}
+use Rattle.std.specs.List.{count_by, flat_map, list_all, range_with_len, sum}
 use Rattle.act_io.specs.Put.{written_after}
 use Rattle.act_model.specs.Limits.{most_bytes}
 use Rattle.act_model.specs.Name.{has_form}
@@ -28,6 +28,7 @@ use Rattle.act_script.specs.declared.fault.ScriptFault.{ScriptFault}
 use Rattle.act_script.specs.declared.fault.ScriptFault.TheVariants.{NotLine, UnknownName, EventUnfit, TooManyEntries, NoMemory as NoMemoryToRead}
 use Rattle.act_text.specs.Lines.{line_of}
 use Rattle.act_top.specs.Command.{CommandWords, Verb, Eval, Check}
+use Rattle.act_top.specs.Reached.{rows_calculated}
 use Rattle.act_top.specs.declared.top.Status.{Status}
 use Rattle.act_top.specs.declared.writing.Stop.{Stop}
 use Rattle.act_top.specs.declared.writing.Stop.TheVariants.{Sink as SinkStop, Memory}
@@ -171,16 +172,9 @@ is_end (Overflow day kind) = false
 abbrev pub all_end : List (ℕ × Stream) → Bool
 all_end runs = list_all (λ (run : ℕ × Stream). is_end run.1.close) runs
 
--- how many rows these runs have
-abbrev pub rows_of : List (ℕ × Stream) → ℕ
-rows_of runs = sum_by (λ (run : ℕ × Stream). length run.1.rows) runs
-
 -- the same of an answer's runs
 abbrev pub ends_well : Reply → Bool
 ends_well answer = all_end answer.runs
-
-abbrev pub row_count : Reply → ℕ
-row_count answer = rows_of answer.runs
 
 -- the status of answers
 abbrev pub answers_status : List Reply → Status
@@ -193,7 +187,7 @@ eval_outcome portfolio script = elim (too_much_asked portfolio script.lines) [
   | None ↦ record {
     status = answers_status (answers_of portfolio.contracts script.names (items_of script.lines));
     text = output_of portfolio script.names (items_of script.lines);
-    rows = sum_by row_count (answers_of portfolio.contracts script.names (items_of script.lines));
+    rows = rows_calculated portfolio.contracts script.names (items_of script.lines);
   }
 ]
 

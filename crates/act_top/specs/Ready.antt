@@ -1,6 +1,6 @@
 -- What is ready to be written. This profile's own.
-use Rattle.std.specs.Prelude.{◌≡◌, ◌<◌, ◌≤◌, ℕ, not, true, List, [], ◌++◌, length, map, slice_get, Some, None}
-use Rattle.std.specs.List.{All, count_by, flat_map, sum_by}
+use Rattle.std.specs.Prelude.{◌≡◌, ◌≤◌, ◌-◌, ℕ, not, true, List, ◌++◌, length, map, None}
+use Rattle.std.specs.List.{All, count_by, flat_map, range_with_len}
 use Rattle.act_model.specs.Names.{NameLists}
 use Rattle.act_model.specs.declared.journal.Asked.{Asked}
 use Rattle.act_model.specs.declared.observed.Obs.{Obs}
@@ -14,7 +14,8 @@ use Rattle.act_script.specs.Reading.{Script}
 use Rattle.act_model.specs.Journal.{appends_entry, contracts_of, is_append, is_known}
 use Rattle.act_profile.specs.Answers.{answers_of}
 use Rattle.act_profile.specs.Run.{Contracts, run_of}
-use Rattle.act_top.specs.Output.{Outcome, answers_status, items_of, output_of, row_count, too_much_asked}
+use Rattle.act_top.specs.Output.{Outcome, answers_status, items_of, output_of, too_much_asked}
+use Rattle.act_top.specs.Reached.{rows_calculated}
 
 -- what is true of the lines of a script of a portfolio: the contracts are the portfolio's, what a step names is named, what it appends is an
 -- entry of a book, and a book holds them all
@@ -24,14 +25,8 @@ pub record AreOf (portfolio : Accepted) (script : Script) : Type 0 where
   pub entries : All (λ (line : Line). appends_entry line.step ≡ true) script.lines
   pub few : count_by (λ (line : Line). is_append line.step) script.lines ≤ most_entries
 
--- what is true of a portfolio: each contract has a name, and refers to no others
-pub record AreAlone (portfolio : Accepted) : Type 0 where
-  pub named : length portfolio.names.contracts ≡ length portfolio.contracts.terms
-  pub childless : (c : ℕ) → c < length portfolio.contracts.terms → slice_get portfolio.contracts.children c ≡ Some []
-
--- the contracts refer to no others, the lines are of the portfolio, and their asks don't weigh too much
+-- the lines are of the portfolio, and their asks don't weigh too much
 pub record IsReady (portfolio : Accepted) (script : Script) : Type 0 where
-  pub contracts : AreAlone portfolio
   pub lines : AreOf portfolio script
   pub light : too_much_asked portfolio script.lines ≡ None
 
@@ -43,6 +38,10 @@ pub record Evaluation : Type 0 where
 -- the runs of the contracts asked for over the entries that are seen, each with its contract
 abbrev pub runs_asked : Contracts → NameLists → List Obs → Asked → List (ℕ × Stream)
 runs_asked contracts names entries asked = map (λ c. (c, run_of contracts entries c)) (contracts_of names asked)
+
+-- the runs of the contracts from a number on, as far as to another
+abbrev pub runs_from : (ℕ → Stream) → ℕ → ℕ → List (ℕ × Stream)
+runs_from run k end = map (λ (c : ℕ). (c, run c)) (range_with_len k (end - k))
 
 -- their blocks
 abbrev pub runs_text : NameLists → List (ℕ × Stream) → List ℕ
@@ -59,5 +58,5 @@ abbrev pub evaluation_outcome : Evaluation → Outcome
 evaluation_outcome evaluation = record {
   status = answers_status (answers_of evaluation.portfolio.contracts evaluation.script.names (items_of evaluation.script.lines));
   text = output_of evaluation.portfolio evaluation.script.names (items_of evaluation.script.lines);
-  rows = sum_by row_count (answers_of evaluation.portfolio.contracts evaluation.script.names (items_of evaluation.script.lines));
+  rows = rows_calculated evaluation.portfolio.contracts evaluation.script.names (items_of evaluation.script.lines);
 }

@@ -2,7 +2,7 @@
 ghost use Rattle.std.specs.Prelude.{◌≡◌, IfErr, IfOk, IfSome, ⊤};
 ghost use Rattle.act_top.specs.Halts.{RefusesOnly, refusal_of};
 ghost use Rattle.act_top.specs.Output.{eval_outcome};
-ghost use Rattle.act_top.specs.Ready.{AreAlone, AreOf, evaluation_outcome};
+ghost use Rattle.act_top.specs.Ready.{AreOf, evaluation_outcome};
 
 use crate::halt::Halt;
 use crate::reading::Script;
@@ -32,7 +32,8 @@ impl Model for Evaluation {
 impl Evaluation {
     /// The names that its lines are written with.
     pub(crate) fn names(&self) -> &Names
-        ensures { result.now ≡ self.now.script.names }
+        ensures names { result.now ≡ self.now.script.names }
+        ensures contracts { result.now.contracts ≡ self.now.portfolio.names.contracts }
     {
         &self.script.names
     }
@@ -43,7 +44,6 @@ impl Evaluation {
         portfolio: Portfolio,
         script: Script,
     ) -> Result<Evaluation, Halt>
-        requires alone { AreAlone portfolio }
         requires lines { AreOf portfolio script }
         ensures outcome { IfOk result (λ evaluation. eval_outcome portfolio script ≡ evaluation_outcome evaluation) }
         ensures too_much { IfErr result (λ halt. IfSome (refusal_of halt) (λ outcome. eval_outcome portfolio script ≡ outcome)) }

@@ -4,7 +4,7 @@ ghost use Rattle.act_top.specs.Command.{words_of};
 ghost use Rattle.act_top.specs.Asked.{AsksNoScript};
 ghost use Rattle.act_top.specs.Halts.{AsksFiles, AsksScript, read_faults, refusal_of};
 ghost use Rattle.act_top.specs.Output.{outcome_of, script_outcome, script_told};
-ghost use Rattle.act_top.specs.Ready.{AreAlone, evaluation_outcome};
+ghost use Rattle.act_top.specs.Ready.{evaluation_outcome};
 ghost use Rattle.act_top.specs.Jobs.{job_outcome};
 
 use crate::command::Command;
@@ -51,7 +51,6 @@ fn evaluation_of<F: Files>(
     portfolio: Portfolio,
     script: Option<&str>,
 ) -> Result<Evaluation, Halt>
-    requires { AreAlone portfolio }
     ensures evaluation { IfOk result (λ evaluation.
         IfSome (script_told (F.content files.old) portfolio (option_map (λ s. s.now) script.entry))
         (λ script. script_outcome portfolio script ≡ evaluation_outcome evaluation)) }

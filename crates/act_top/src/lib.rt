@@ -1,7 +1,9 @@
 //! The program's commands, from the words it is given to the bytes it writes.
 #![tactic(auto)]
 
+mod ahead;
 mod answers;
+mod below;
 mod check;
 mod command;
 mod evaluation;

@@ -4,7 +4,7 @@ ghost use Rattle.act_io.specs.Fetch.{fetch_faults, names_after};
 ghost use Rattle.act_io.specs.declared.files.FetchFault.TheVariants.{TooLong as TooLongFault};
 ghost use Rattle.act_top.specs.Halts.{AsksFile, AsksScript, Reads, ReadsBytes, RefusesOnly, read_faults, refusal_of};
 ghost use Rattle.act_top.specs.Output.{ask_for_all, long_outcome, portfolio_accepted, portfolio_read, portfolio_refused, read_outcome, script_accepted, script_fault, script_read, script_refused, script_told};
-ghost use Rattle.act_top.specs.Ready.{AreAlone, AreOf};
+ghost use Rattle.act_top.specs.Ready.{AreOf};
 
 use crate::halt::Halt;
 use crate::line::line_of;
@@ -40,7 +40,6 @@ pub(crate) fn read_portfolio<F: Files>(
     name: &str,
 ) -> Result<Portfolio, Halt>
     ensures told { IfSome (F.content files.old name.now) (λ bytes. Reads (portfolio_read name.now bytes) result) }
-    ensures alone { IfOk result (λ portfolio. AreAlone portfolio) }
     ensures faults { F.faults files.new ≡ read_faults result (F.faults files.old) }
     ensures asked { AsksFile ⊤ ⊥ name.now result (F.asked files.old) (F.asked files.new) }
     ensures same { (other : List ℕ) → F.content files.new other ≡ F.content files.old other }
@@ -142,7 +141,6 @@ fn fetch_halt(alloc: Global, name: &str, fault: FetchFault, unread: Vec<u8>) -> 
 fn accepted_portfolio(alloc: Global, bytes: &[u8]) -> Result<Portfolio, Halt>
     requires within { length bytes.now ≤ MOST_BYTES }
     ensures told { Reads (portfolio_accepted bytes.now) result }
-    ensures alone { IfOk result (λ portfolio. AreAlone portfolio) }
     ensures refused { IfErr result (RefusesOnly ⊤ ⊥) }
 {
     match Portfolio::read(alloc, bytes) {

@@ -5,4 +5,4 @@ use Rattle.act_portfolio.proofs.contracts.read_contracts.Given as goal
 
 abbrev pub invariant-loop-number : goal.invariant-loop-number
 invariant-loop-number l =
-    IsReadTo (map view l.contracts) (map view (drop l.number l.contracts)) l.named.items l.names l.number
+    IsReadTo (map (λ c. view c.now) l.contracts) (map (λ c. view c.now) (drop l.number l.contracts)) l.named.items l.names l.number

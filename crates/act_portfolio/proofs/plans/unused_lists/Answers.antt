@@ -11,9 +11,9 @@ use Rattle.act_portfolio.proofs.plans.unused_lists.Goals as goal
 pub loop-place-preserved : goal.loop-place-preserved
 loop-place-preserved c =
     let first = next_of c.args.named.now c.loop-place.place c.index-named-place.result c.loop-place-test.true c.index-named-place.is in
-    let here = left_from view c.args.contracts.now c.loop-place.place c.index-contracts-place.result (omega (arith, c.requires.all, c.loop-place-test.true)) c.index-contracts-place.is in
-    let is : map string_bytes c.in_ok-unused.unused.items ≡ unused_names (type_of c.index-named-place.result.terms.kind) (view c.index-contracts-place.result) =
-    c.in_ok-unused.ensures ∙ ap (λ type. unused_names type (view c.index-contracts-place.result)) (c.contract_type-contract_type.ensures ∙ ap (λ n. type_of n.terms.kind) c.contract.view_is) in
+    let here = left_from (λ c. view c.now) c.args.contracts.now c.loop-place.place c.index-contracts-place.result (omega (arith, c.requires.all, c.loop-place-test.true)) c.index-contracts-place.is in
+    let is : map string_bytes c.in_ok-unused.unused.items ≡ unused_names (type_of c.index-named-place.result.terms.kind) (view c.index-contracts-place.result.now) =
+    c.in_ok-unused.ensures ∙ ap (λ type. unused_names type (view c.index-contracts-place.result.now)) (c.contract_type-contract_type.ensures ∙ ap (λ n. type_of n.terms.kind) c.contract.view_is) in
     rw (c.in_ok-push.ensures.items, map-append) (one_listed _ _ _ _ _ _ _ _ _ c.loop-place.invariant first here is)
 
 pub returns : goal.returns

@@ -6,4 +6,4 @@ use Rattle.act_portfolio.proofs.plans.unused_lists.Given as goal
 
 abbrev pub invariant-loop-place : goal.invariant-loop-place
 invariant-loop-place l =
-    IsListedTo (drop l.place l.named) (map view (drop l.place l.contracts)) (map (λ u. map string_bytes u.items) l.lists.items) (unused_lists l.named (map view l.contracts))
+    IsListedTo (drop l.place l.named) (map (λ c. view c.now) (drop l.place l.contracts)) (map (λ u. map string_bytes u.items) l.lists.items) (unused_lists l.named (map (λ c. view c.now) l.contracts))

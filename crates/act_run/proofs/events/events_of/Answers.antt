@@ -1,10 +1,14 @@
-use Rattle.std.proofs.Common.{◌∙◌, ap}
-use Rattle.act_model.specs.Observed.{observed_events}
-use Rattle.act_run.proofs.Observations.{events_of-built}
+use Rattle.std.proofs.Common.{◌++◌, map, ap, ◌∙◌}
+use Rattle.std.specs.Arc.{arc_value}
+use Rattle.act_profile.specs.Events.{events_of, events_of_children, with_exercise}
+use Rattle.act_profile.specs.Order.{counting, in_order}
 use Rattle.act_run.proofs.events.events_of.Goals as goal
 
 pub returns : goal.returns
+unfolding events_of
 returns g c =
-    let entries = g.O.Observed.entries c.args.seen.now in
-    let own = c.deref.ensures.value ∙ c.in_ok-own.ensures ∙ ap (observed_events entries) c.observed_as.ensures in
-    events_of-built c.args.terms.now c.args.plan.now entries _ _ _ c.requires (c.in_ok-events.ensures entries own) c.retain_counting.ensures c.with_exercise.ensures
+    let terms = c.args.terms.now in
+    let rows = events_of_children terms.common terms.kind (map arc_value c.args.children.now) in
+    c.with_exercise.ensures
+    ∙ ap (with_exercise terms.kind) (c.retain_counting.ensures ∙ ap (counting terms.common.status_date terms.kind) (c.in_ok-put_in_order.ensures.in_order
+    ∙ ap in_order (c.in_ok-add_rows_of_children.ensures ∙ ap (λ own. own ++ rows) c.in_ok-events.ensures)))

@@ -1,15 +1,15 @@
 use Rattle.std.proofs.Common.{◌||◌, sym, ap, ◌∙◌}
-use Rattle.act_terms.specs.Used.{is_among, settlement_terms}
+use Rattle.act_terms.specs.Used.{is_among, trade_terms}
 use Rattle.act_terms.proofs.TermNames.{shared_is}
 use Rattle.act_terms.proofs.used.is_shared_term.Goals as goal
 
-pub returns-then-is_among : goal.returns-then-is_among
-returns-then-is_among c =
-    let settlement = is_among (settlement_terms c.args.contract_type) c.args.name.now in
-    c.if-is_among.true ∙ sym (shared_is c.args.contract_type c.args.name.now ∙ ap (λ b. b || settlement) (sym c.is_among.ensures ∙ c.if-is_among.true))
+pub returns-then-is_money_term : goal.returns-then-is_money_term
+returns-then-is_money_term c =
+    let trade = is_among (trade_terms c.args.contract_type) c.args.name.now in
+    c.if-is_money_term.true ∙ sym (shared_is c.args.contract_type c.args.name.now ∙ ap (λ b. b || trade) (sym c.is_money_term.ensures ∙ c.if-is_money_term.true))
 
-pub returns-else-is_among : goal.returns-else-is_among
-returns-else-is_among c =
-    let settlement = is_among (settlement_terms c.args.contract_type) c.args.name.now in
-    c.is_settlement_term.ensures
-    ∙ sym (shared_is c.args.contract_type c.args.name.now ∙ ap (λ b. b || settlement) (sym c.is_among.ensures ∙ c.if-is_among.false))
+pub returns-else-is_money_term : goal.returns-else-is_money_term
+returns-else-is_money_term c =
+    let trade = is_among (trade_terms c.args.contract_type) c.args.name.now in
+    c.is_trade_term.ensures
+    ∙ sym (shared_is c.args.contract_type c.args.name.now ∙ ap (λ b. b || trade) (sym c.is_money_term.ensures ∙ c.if-is_money_term.false))

@@ -1,5 +1,6 @@
 use Rattle.std.proofs.Common.{◌≡◌, ◌*◌, ◌≤◌, map}
 use Rattle.std.specs.List.{range_with_len, sum}
+use Rattle.act_portfolio.specs.Cones.{most_weight}
 use Rattle.act_portfolio.specs.Counts.{cone_sum}
 use Rattle.act_top.proofs.weight.weights_of.Given as goal
 
@@ -8,5 +9,5 @@ abbrev pub invariant-loop-contract : goal.invariant-loop-contract
 invariant-loop-contract l = record {
   each : l.each.items ≡ map (cone_sum l.portfolio.contracts) (range_with_len 0 l.contract);
   all : l.all ≡ sum l.each.items;
-  within : l.all ≤ 4097 * l.contract;
+  within : l.all ≤ most_weight * l.contract;
 }

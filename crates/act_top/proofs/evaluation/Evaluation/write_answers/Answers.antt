@@ -1,9 +1,9 @@
 use Rattle.std.proofs.Common.{None, ◌≡◌, ◌<◌, ◌≤◌, ◌+◌, Bool, List, drop, refl, get_or, length, sym, ap, subst, ◌∙◌, arith, rules}
-use Rattle.std.specs.List.{count_by, sum_by}
+use Rattle.std.specs.List.{count_by}
 use Rattle.act_model.specs.declared.journal.Line.{Line}
-use Rattle.act_top.specs.Output.{row_count, too_much_asked}
+use Rattle.act_top.specs.Output.{too_much_asked}
 use Rattle.act_top.specs.Ready.{Evaluation}
-use Rattle.act_top.proofs.Answering.{Answering, answering-all, answering-append, answering-ask, answering-none, answering-part, answers_from, appends, book-length, answers-are, rows-append, rows-ask, version-fits}
+use Rattle.act_top.proofs.Answering.{Answering, answering-all, answering-append, answering-ask, answering-none, answering-part, appends, book-length, answers-are, rows-append, rows-are, rows-ask, rows_from, version-fits}
 use Rattle.act_top.proofs.Texts.{drop-next, drop-past, faults-on, writes-part}
 use Rattle.act_top.proofs.evaluation.Evaluation.write_answers.Goals as goal
 use Rattle.act_top.proofs.evaluation.Evaluation.write_answers.Goals.{in-Append, in-Ask+in_ok-ends-in-Ask}
@@ -44,7 +44,7 @@ loop-step-preserved g c =
     let within : i < length e.script.lines = omega (arith, c.loop-step-test.true, ap length lines_are) in
     let here = drop-next e.script.lines i c.step-item.result within (c.step-item.is ∙ ap (λ (ls : List Line). get_or ls i c.step-item.result) lines_are) in
     let now = subst (λ (left : List Line). Answering e.portfolio e.script.names c.args.book.now e.script.lines left c.loop-step.number c.loop-step.version c.loop-step.ended (g.K.Sink.written c.args.out.now) (g.K.Sink.written c.loop-step.out)) here c.loop-step.invariant.answering in
-    let ticks = subst (λ (left : List Line). c.loop-step.steps + sum_by row_count (answers_from e.portfolio e.script.names c.args.book.now c.loop-step.number c.loop-step.version left) ≡ c.args.steps.now + sum_by row_count (answers_from e.portfolio e.script.names c.args.book.now 1 0 e.script.lines)) here c.loop-step.invariant.ticks in
+    let ticks = subst (λ (left : List Line). c.loop-step.steps + rows_from e.portfolio e.script.names c.args.book.now c.loop-step.number c.loop-step.version left ≡ c.args.steps.now + rows_from e.portfolio e.script.names c.args.book.now 1 0 e.script.lines) here c.loop-step.invariant.ticks in
     elim c.match-step.branch [
       | in-Append w ↦ record {
         answering = rw (w.out-is, w.number-is, w.version-is, w.ended-is)
@@ -82,8 +82,8 @@ returns-clause-ticked g c =
     let e = c.args.self.now in
     let lines_are : c.deref-step-items.result.now ≡ e.script.lines = search rules in
     let past : length e.script.lines ≤ c.loop-step.step-index = omega (arith, c.loop-step-test.false, ap length lines_are) in
-    let ticks = subst (λ (left : List Line). c.loop-step.steps + sum_by row_count (answers_from e.portfolio e.script.names c.args.book.now c.loop-step.number c.loop-step.version left) ≡ c.args.steps.now + sum_by row_count (answers_from e.portfolio e.script.names c.args.book.now 1 0 e.script.lines)) (drop-past e.script.lines c.loop-step.step-index past) c.loop-step.invariant.ticks in
-    rw (answers-are e.portfolio e.script.names c.args.book.now e.script.lines c.requires) (omega (arith, ticks))
+    let ticks = subst (λ (left : List Line). c.loop-step.steps + rows_from e.portfolio e.script.names c.args.book.now c.loop-step.number c.loop-step.version left ≡ c.args.steps.now + rows_from e.portfolio e.script.names c.args.book.now 1 0 e.script.lines) (drop-past e.script.lines c.loop-step.step-index past) c.loop-step.invariant.ticks in
+    rw (rows-are e.portfolio e.script.names c.args.book.now e.script.lines c.requires) (omega (arith, ticks))
 
 pub returns-in_err-ends-in-Ask-clause-faults : goal.returns-in_err-ends-in-Ask-clause-faults
 returns-in_err-ends-in-Ask-clause-faults g c =

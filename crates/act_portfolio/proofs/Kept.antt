@@ -1,0 +1,83 @@
+-- What is kept of a portfolio, looked up by the number of a contract.
+use Rattle.std.proofs.Common.{◌≡◌, ℕ, ◌<◌, ◌≤◌, List, length, map, Some, None, option_map, Ok, Vec, Global, inl, inr, get_or, refl, sym, ap, ◌∙◌, arith, slice_get}
+use Rattle.std.specs.List.{All, range_with_len}
+use Rattle.std.proofs.lemmas.List.{get_or_default, length-map}
+use Rattle.std.proofs.lemmas.List.Elements.{All-get_or}
+use Rattle.std.proofs.lemmas.List.FromFn.{get_or-map-range_with_len, get_or-range_with_len, length-map-range_with_len, length-range_with_len}
+use Rattle.std.proofs.lemmas.List.Sorted.{All-permutation, length_permutation}
+use Rattle.std.proofs.lemmas.Option.{get_or_from_slice_get, same_Some, slice_get-map, slice_get_cases, slice_get_read, slice_get_within}
+use Rattle.act_model.specs.Reads.{Readings}
+use Rattle.act_model.specs.Run.{EventPlan}
+use Rattle.act_model.specs.declared.terms.Terms.{Terms}
+use Rattle.act_profile.specs.Plan.{plan_of}
+use Rattle.act_refs.specs.Ordered.{order_of}
+use Rattle.act_refs.proofs.Ordering.{order_of-reference}
+use Rattle.act_portfolio.specs.Cones.{most_counted, most_weight, reads_of}
+use Rattle.act_portfolio.specs.Counts.{cone_sum, scheduled_count}
+use Rattle.act_portfolio.specs.Known.{IsPortfolio}
+use Rattle.act_portfolio.specs.Reading.{Accepted}
+
+-- ---- plans, children and order
+
+-- the plan of a contract is that of its terms
+pub plan_at : (terms : List Terms) (plans : List EventPlan) → map plan_of terms ≡ map Ok plans → (c : ℕ) (t : Terms) (plan : EventPlan) → slice_get terms c ≡ Some t → plan ≡ get_or plans c plan → plan_of t ≡ Ok plan
+plan_at terms plans planned c t plan here is =
+    let both : Some (plan_of t) ≡ option_map Ok (slice_get plans c) = sym (slice_get-map plan_of terms c ∙ ap (option_map plan_of) here) ∙ ap (λ l. slice_get l c) planned ∙ slice_get-map Ok plans c in
+    elim (slice_get_cases plans c).1 [
+      | inl found ↦
+          let same : found.0 ≡ plan = sym found.3 ∙ get_or_default plans c found.0 plan found.1 ∙ sym is in
+          same_Some _ _ (both ∙ ap (option_map Ok) found.2) ∙ ap Ok same
+      | inr past ↦ let none : Some (plan_of t) ≡ None = both ∙ ap (option_map Ok) past.1 in absurd (cc)
+    ]
+
+-- what holds of each list of a graph holds of one that was read
+pub list_at : (P : List ℕ → Type 0) (lists : List (Vec ℕ Global)) (n c : ℕ) (one : Vec ℕ Global) → length (map (λ v. v.items) lists) ≡ n → c < n → one ≡ get_or lists c one → All P (map (λ v. v.items) lists) → P one.items
+list_at P lists n c one count within read all =
+    let there : c < length lists = omega (arith, count, length-map lists (λ (v : Vec ℕ Global). v.items)) in
+    let here : slice_get (map (λ (v : Vec ℕ Global). v.items) lists) c ≡ Some one.items = slice_get-map (λ (v : Vec ℕ Global). v.items) lists c ∙ ap (option_map (λ (v : Vec ℕ Global). v.items)) (slice_get_read lists (length lists) c one refl there read) in
+    rw (get_or_from_slice_get _ c one.items one.items here) at (All-get_or P (map (λ (v : Vec ℕ Global). v.items) lists) c one.items (slice_get_within _ c one.items here) all)
+
+-- each number of a reference order is that of a contract
+pub order_numbered : (graph : List (List ℕ)) (order : List ℕ) (n : ℕ) → order_of graph ≡ Ok order → length graph ≡ n → All (λ contract. contract < n) order
+order_numbered graph order n ordered count =
+    All-permutation (λ contract. contract < n) (range_with_len 0 (length graph)) order (order_of-reference graph order ordered).permutation
+    (λ k d within. let inside : k < length graph = omega (arith, length-range_with_len 0 (length graph)) in omega (arith, get_or-range_with_len 0 (length graph) k d inside))
+
+-- there are as many as contracts
+pub order_counted : (graph : List (List ℕ)) (order : List ℕ) → order_of graph ≡ Ok order → length order ≡ length graph
+order_counted graph order ordered = length_permutation (range_with_len 0 (length graph)) order (order_of-reference graph order ordered).permutation ∙ length-range_with_len 0 (length graph)
+
+-- ---- what is kept for each contract
+
+-- it is there, and is what it was computed to
+kept_within : {X : Type 0} (f : ℕ → X) (kept : List X) (n c : ℕ) → kept ≡ map f (range_with_len 0 n) → c < n → c < length kept
+kept_within f kept n c is within = omega (arith, ap length is, length-map-range_with_len f 0 n)
+
+kept_at : {X : Type 0} (f : ℕ → X) (kept : List X) (n c : ℕ) (x : X) → kept ≡ map f (range_with_len 0 n) → c < n → x ≡ get_or kept c x → x ≡ f c
+kept_at f kept n c x is within read = read ∙ (ap (λ l. get_or l c x) is ∙ get_or-map-range_with_len f 0 n c c x within (omega arith))
+
+-- what holds of each number holds of one that was read
+number_at : (P : ℕ → Type 0) (numbers : List ℕ) (c x : ℕ) → c < length numbers → x ≡ get_or numbers c x → All P numbers → P x
+number_at P numbers c x within read all = rw (← read) at (All-get_or P numbers c x within all)
+
+module _ (portfolio : Accepted) (places events sums : List ℕ) (readings : List Readings) (kept : IsPortfolio portfolio places events sums readings) (c : ℕ) (within : c < length portfolio.contracts.terms) where
+  inside : c < length portfolio.contracts.children
+  inside = omega (arith, kept.accepted.children)
+
+  pub count_within : c < length events
+  count_within = kept_within (scheduled_count portfolio.contracts) events _ c kept.cones.counts inside
+
+  pub count_at : (n : ℕ) → n ≡ get_or events c n → (n ≡ scheduled_count portfolio.contracts c) × (n ≤ most_counted)
+  count_at n read = (kept_at (scheduled_count portfolio.contracts) events _ c n kept.cones.counts inside read, number_at (λ m. m ≤ most_counted) events c n count_within read kept.cones.few)
+
+  pub weight_within : c < length sums
+  weight_within = kept_within (cone_sum portfolio.contracts) sums _ c kept.cones.weights inside
+
+  pub weight_at : (n : ℕ) → n ≡ get_or sums c n → (n ≡ cone_sum portfolio.contracts c) × (n ≤ most_weight)
+  weight_at n read = (kept_at (cone_sum portfolio.contracts) sums _ c n kept.cones.weights inside read, number_at (λ m. m ≤ most_weight) sums c n weight_within read kept.cones.light)
+
+  pub reads_within : c < length readings
+  reads_within = kept_within (reads_of portfolio.contracts) readings _ c kept.cones.reads inside
+
+  pub reads_at : (read : Readings) → read ≡ get_or readings c read → read ≡ reads_of portfolio.contracts c
+  reads_at read is = kept_at (reads_of portfolio.contracts) readings _ c read kept.cones.reads inside is

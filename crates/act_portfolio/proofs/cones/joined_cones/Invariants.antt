@@ -1,0 +1,8 @@
+use Rattle.std.proofs.Common.{◌≡◌, [], ◌∷◌, get_or, map, take}
+use Rattle.std.specs.List.{flat_map}
+use Rattle.act_portfolio.proofs.cones.joined_cones.Given as goal
+
+-- the contract, and the cones of the children before the place
+abbrev pub invariant-loop-child : goal.invariant-loop-child
+invariant-loop-child l =
+    l.reached.items ≡ l.contract ∷ flat_map (λ child. get_or (map (λ c. c.items) l.cones) child []) (take l.child-index l.children)

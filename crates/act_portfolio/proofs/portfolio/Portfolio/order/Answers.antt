@@ -1,0 +1,6 @@
+use Rattle.act_portfolio.proofs.Kept.{order_numbered}
+use Rattle.act_portfolio.proofs.portfolio.Portfolio.order.Goals as goal
+
+pub returns-clause-numbered : goal.returns-clause-numbered
+returns-clause-numbered c =
+    rw (c.deref.ensures.value, ← c.self.view_is) (order_numbered _ _ _ c.self.invariant.accepted.ordered c.self.invariant.accepted.children)

@@ -1,0 +1,144 @@
+//! Contracts as a graph, bound to what they refer to.
+ghost use Rattle.std.specs.Prelude.{◌≡◌, ◌++◌, ◌+◌, ◌≤◌, None, Ok, Err, IfOk, IfErr, IfSome, length, map, string_bytes, zero};
+ghost use Rattle.std.specs.List.{All, zip};
+ghost use Rattle.act_profile.specs.Built.{IsBuilt};
+ghost use Rattle.act_profile.specs.Outcomes.{map_ok};
+ghost use Rattle.act_portfolio.specs.Binding.{bound, with_shadows};
+ghost use Rattle.act_portfolio.specs.Known.{HavePlans, IsContract, IsGraph, count_with_shadows, portfolio_with};
+ghost use Rattle.act_portfolio.specs.Links.{first_unfit, listing_of};
+ghost use Rattle.act_portfolio.specs.Reading.{ordered, plans_from};
+ghost use Rattle.act_portfolio.specs.Refusal.{refusal_of};
+
+use crate::binding::{bindings, bound_terms};
+use crate::cones::all_cones;
+use crate::counts::Contracts;
+use crate::fault::PortfolioFault;
+use crate::links::Listing;
+use crate::order::{evaluation_order, ranks};
+use crate::plans::{all_terms, plan_contracts};
+use crate::portfolio::Portfolio;
+use crate::shadows::{child_lists, shadow_numbers, shadows};
+use act_model::{MOST_CONTRACTS, Names, Plan, Terms};
+use act_num::NoMemory;
+use act_terms::NamedTerms;
+use std::alloc::Global;
+
+/// What contracts refer to: for each contract of a file the number of its shadow, if it has one, the shadows, the children
+/// of all, and the order in which they are evaluated.
+#[derive(Drop)]
+pub(crate) struct Graph {
+    numbers: Vec<u32>,
+    shadows: Vec<Terms>,
+    children: Vec<Vec<u32>>,
+    order: Vec<u32>,
+}
+
+/// The graph of contracts whose references fit.
+pub(crate) fn graph_of(
+    alloc: Global,
+    names: &Names,
+    named: &[NamedTerms],
+) -> Result<Graph, PortfolioFault>
+    requires names { names.now.contracts ≡ map (λ c. c.id) named.now }
+    requires few { count_with_shadows named.now ≤ MOST_CONTRACTS }
+    requires fit { first_unfit named.now ≡ None }
+    ensures graph { IfOk result (λ g.
+        IsGraph named.now g.numbers.items g.shadows.items (map (λ c. c.items) g.children.items) g.order.items) }
+    ensures refused { IfErr result (λ fault. IfSome (refusal_of fault) (λ refusal. ordered named.now ≡ Err refusal)) }
+{
+    let listing = Listing::new(names, named);
+    let numbers = shadow_numbers(alloc, named)?;
+    let shadows = shadows(alloc, &listing, named, &numbers)?;
+    let children = child_lists(alloc, &listing, named, &numbers, &shadows)?;
+    let order = evaluation_order(alloc, names, &children)?;
+    Ok(Graph {
+        numbers,
+        shadows,
+        children,
+        order,
+    })
+}
+
+/// The portfolio of contracts and their graph, once they have plans.
+pub(crate) fn bound_portfolio(
+    alloc: Global,
+    names: Names,
+    named: Vec<NamedTerms>,
+    graph: Graph,
+    unused: Vec<Vec<String>>,
+) -> Result<Portfolio, PortfolioFault>
+    requires names { names.contracts ≡ map (λ c. c.id) named.items }
+    requires contracts { All IsContract named.items }
+    requires few { count_with_shadows named.items ≤ MOST_CONTRACTS }
+    requires graph { IsGraph named.items graph.numbers.items graph.shadows.items (map (λ c. c.items) graph.children.items) graph.order.items }
+    requires unused { length unused.items ≡ length named.items }
+    ensures accepted { IfOk result (λ portfolio. map_ok
+        (portfolio_with names named.items graph.order.items (map (λ u. map string_bytes u.items) unused.items))
+        (plans_from zero (with_shadows named.items)) ≡ Ok portfolio) }
+    ensures refused { IfErr result (λ fault. IfSome (refusal_of fault) (λ refusal.
+        plans_from zero (with_shadows named.items) ≡ Err refusal)) }
+{
+    let Graph {
+        numbers,
+        shadows,
+        children,
+        order,
+    } = graph;
+    let plans = plans_of(alloc, &named, &shadows)?;
+    let terms = terms_of(alloc, &names, named, &numbers, shadows, &plans)?;
+    let ranks = ranks(alloc, &children, &order)?;
+    let contracts = Contracts {
+        terms: &terms,
+        plans: &plans,
+        children: &children,
+    };
+    let cones = all_cones(alloc, &contracts, &order)?;
+    Ok(Portfolio {
+        names,
+        terms,
+        plans,
+        children,
+        order,
+        ranks,
+        cones,
+        unused,
+    })
+}
+
+/// The plans of contracts and of shadows behind them.
+fn plans_of(
+    alloc: Global,
+    named: &[NamedTerms],
+    shadows: &[Terms],
+) -> Result<Vec<Plan>, PortfolioFault>
+    requires contracts { All IsContract named.now }
+    requires built { All (λ t. IsBuilt t.kind) shadows.now }
+    requires few { length named.now + length shadows.now ≤ MOST_CONTRACTS }
+    ensures plans { IfOk result (λ plans. plans_from zero (map (λ c. c.terms) named.now ++ shadows.now) ≡ Ok plans.items) }
+    ensures refused { IfErr result (λ fault. IfSome (refusal_of fault) (λ refusal.
+        plans_from zero (map (λ c. c.terms) named.now ++ shadows.now) ≡ Err refusal)) }
+{
+    let terms = all_terms(alloc, named, shadows)?;
+    plan_contracts(alloc, &terms)
+}
+
+/// The terms of contracts, bound to what their references are to, and behind them those of their shadows.
+fn terms_of(
+    alloc: Global,
+    names: &Names,
+    named: Vec<NamedTerms>,
+    numbers: &[u32],
+    shadows: Vec<Terms>,
+    plans: &[Plan],
+) -> Result<Vec<Terms>, NoMemory>
+    requires names { names.now.contracts ≡ map (λ c. c.id) named.items }
+    requires planned { HavePlans (map (λ c. c.terms) named.items) plans.now }
+    requires few { length named.items ≤ MOST_CONTRACTS }
+    requires numbers { length numbers.now ≡ length named.items }
+    ensures { IfOk result (λ terms. terms.items
+        ≡ map (bound (listing_of named.items) plans.now) (zip named.items numbers.now) ++ shadows.items) }
+{
+    let listing = Listing::new(names, &named);
+    let bindings = bindings(alloc, &listing, &named, numbers, plans)?;
+    bound_terms(alloc, named, bindings, shadows)
+}

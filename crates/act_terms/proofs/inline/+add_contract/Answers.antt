@@ -1,0 +1,23 @@
+use Rattle.std.proofs.Common.{◌≡◌, map, option_map, take, None, Some, ap, sym, ◌∙◌}
+use Rattle.std.proofs.lemmas.List.{take_all}
+use Rattle.serde_json.specs.View.{view}
+use Rattle.act_terms.specs.Inline.{contract_in}
+use Rattle.act_terms.proofs.Nesting.{all_inside, shown_more, with_inner, without_inner}
+use Rattle.act_terms.proofs.inline.+add_contract.Goals as goal
+use Rattle.act_terms.proofs.inline.+add_contract.Goals.{in-Some+in_ok-add_contract, in_default}
+
+pub loop-element-preserved : goal.loop-element-preserved
+loop-element-preserved t c =
+    let more = shown_more c.elements-element-items.result.now c.loop-element.element-index c.element-item.result c.loop-element-test.true c.element-item.is in
+    elim c.match-contract_in.branch [
+      | in-Some+in_ok-add_contract w ↦
+          let is : contract_in (view c.element-item.result) ≡ Some (view w.in-Some.inner.now) = sym c.contract_in.ensures.inner ∙ ap (option_map (λ inner. view inner.now)) w.in-Some.is in
+          with_inner _ _ _ _ _ _ _ _ c.loop-element.invariant (ap (λ order. map (λ d. view d.now) order.items) w.order-is ∙ w.in_ok-add_contract.ensures) more is
+      | in_default w ↦
+          let is : contract_in (view c.element-item.result) ≡ None = sym c.contract_in.ensures.inner ∙ ap (option_map (λ inner. view inner.now)) w.in_default.is in
+          ap (λ order. map (λ d. view d.now) order.items) w.order-is ∙ without_inner _ _ _ _ _ _ c.loop-element.invariant more is
+    ]
+
+pub returns : goal.returns
+returns t c =
+    all_inside _ _ _ _ c.loop-element.invariant (ap (map view) (take_all c.loop-element.element-index c.elements-element-items.result.now c.loop-element-test.false) ∙ c.elements-element-items.ensures.elements)

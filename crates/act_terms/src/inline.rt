@@ -1,0 +1,86 @@
+//! Contracts that stand in the structures of others.
+ghost use Rattle.std.specs.Prelude.{◌≡◌, ◌++◌, ◌<◌, IfOk, OnOk, map, option_map, true};
+ghost use Rattle.std.specs.List.{All};
+ghost use Rattle.std.specs.Option.{ForSome};
+ghost use Rattle.serde_json.specs.Data.{depth};
+ghost use Rattle.serde_json.specs.View.{view};
+ghost use Rattle.act_terms.specs.Inline.{contract_in, elements_in_structure, has_inline, in_portfolio_order, is_inside, with_inline};
+
+use crate::choices::choice_in;
+use crate::contract::contract_type;
+use crate::reference::ReferenceType;
+use crate::structure::{has_structure, inner_object};
+use act_json::JsonFault;
+use act_num::NoMemory;
+use serde_json::Value;
+use std::alloc::Global;
+
+/// The contracts of a file in portfolio order: behind each directly those that stand in its structure, each with those that
+/// stand in it.
+pub fn in_portfolio_order(alloc: Global, contracts: &[Value]) -> Result<Vec<&Value>, NoMemory>
+    ensures { IfOk result (λ order. map (λ c. view c.now) order.items ≡ in_portfolio_order (map view contracts.now)) }
+{
+    let mut order = Vec::new(alloc);
+    for contract in contracts {
+        add_contract(contract, &mut order)?;
+    }
+    Ok(order)
+}
+
+/// Adds a contract, and behind it those that stand in it.
+fn add_contract<'a>(contract: &'a Value, order: &mut Vec<&'a Value>) -> Result<(), NoMemory>
+    ensures { OnOk result (map (λ c. view c.now) order.new.items
+        ≡ map (λ c. view c.now) order.old.items ++ with_inline (view contract.now)) }
+{
+    order.push(contract)?;
+    for element in elements(contract) {
+        if let Some(inner) = contract_in(element) {
+            add_contract(inner, order)?;
+        }
+    }
+    Ok(())
+}
+
+/// The elements of a contract's structure, where its type has one and it is a list.
+#[tactic(auto, using(crate::proofs::Elements::listed_again))]
+fn elements(contract: &Value) -> &[Value]
+    ensures elements { map view result.now ≡ elements_in_structure (view contract.now) }
+    ensures lower { All (λ element. depth (view element) < depth (view contract.now)) result.now }
+{
+    if !has_inline(contract) {
+        return &[];
+    }
+    match contract.get("contractStructure") {
+        Some(Value::Array(elements)) => elements.as_slice(),
+        _ => &[],
+    }
+}
+
+/// Whether contracts may stand in a contract: it is of a type that has a structure.
+fn has_inline(contract: &Value) -> bool
+    ensures { result ≡ has_inline (view contract.now) }
+{
+    match contract_type(contract) {
+        Ok(contract_type) => has_structure(contract_type),
+        Err(_) => false,
+    }
+}
+
+/// The contract that stands in an element, where one does.
+fn contract_in(element: &Value) -> Option<&Value>
+    ensures inner { option_map (λ inner. view inner.now) result ≡ contract_in (view element.now) }
+    ensures lower { ForSome result (λ inner. depth (view inner.now) < depth (view element.now)) }
+{
+    if is_inside(choice_in(element, "referenceType")) {
+        inner_object(element)
+    } else {
+        None
+    }
+}
+
+/// Whether a reference is to a contract that stands in its element.
+fn is_inside(reference_type: Result<Option<ReferenceType>, JsonFault>) -> bool
+    ensures { result ≡ is_inside reference_type }
+{
+    matches!(reference_type, Ok(Some(ReferenceType::CNT)))
+}
