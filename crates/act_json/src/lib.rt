@@ -9,5 +9,5 @@ mod reading;
 
 pub use fault::JsonFault;
 pub use fields::{cycle, day, decimal, period, required, text, text_in, word};
-pub use quoting::quote;
+pub use quoting::{is_quoted, quote};
 pub use reading::read;

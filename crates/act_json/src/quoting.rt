@@ -1,5 +1,5 @@
 //! The quoting pass: bare numbers of a JSON text are put in quotes, so that they are read as texts.
-ghost use Rattle.std.specs.Prelude.{◌≡◌, ◌<◌, ◌≤◌, ◌++◌, length, take, drop, slice_index, true, IfOk};
+ghost use Rattle.std.specs.Prelude.{◌≡◌, ◌<◌, ◌≤◌, ◌++◌, length, take, drop, slice_index, true, IfOk, IsTrue};
 ghost use Rattle.std.specs.List.{prefix_len};
 ghost use Rattle.act_json.specs.Quoting.{is_number_byte, piece_len, quoted, quoted_piece, starts_number, string_len};
 
@@ -22,6 +22,13 @@ pub fn quote(alloc: Global, bytes: &[u8]) -> Result<Vec<u8>, NoMemory>
         rest = behind;
     }
     Ok(text)
+}
+
+/// Whether no bare number stands in the bytes, so that the quoting pass leaves them as they are.
+pub fn is_quoted(bytes: &[u8]) -> bool
+    ensures { IsTrue result → quoted bytes.now ≡ bytes.now }
+{
+    len_before_number(bytes) == bytes.len()
 }
 
 /// Puts a number in quotes behind the text, or nothing where it is empty.

@@ -17,5 +17,6 @@ pub mod Ranked
 pub mod ReadSoFar
 pub mod Shadowed
 pub mod Unchanged
+pub mod Unrolling
 pub mod UnusedSoFar
 pub mod Weighed

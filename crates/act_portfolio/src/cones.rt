@@ -9,7 +9,7 @@ ghost use Rattle.act_portfolio.specs.Known.{HavePlans};
 
 use crate::codes::add_codes;
 use crate::counts::{Contracts, scheduled_counts};
-use act_model::{Common, Reads};
+use act_model::{Common, MOST_CONTRACTS, Reads};
 use act_num::NoMemory;
 use std::alloc::Global;
 
@@ -29,7 +29,7 @@ pub(crate) fn all_cones(
 ) -> Result<Cones, NoMemory>
     requires ordered { order_of contracts.now.children ≡ Ok order.now }
     requires children { All (All (λ child. child < length contracts.now.children)) contracts.now.children }
-    requires few { length contracts.now.children ≤ 4096 }
+    requires few { length contracts.now.children ≤ MOST_CONTRACTS }
     requires planned { HavePlans contracts.now.terms contracts.now.plans }
     ensures { IfOk result (λ cones. AreCones contracts.now cones.counts.items cones.weights.items cones.reads.items) }
 {
@@ -131,7 +131,7 @@ fn ascending(mut numbers: Vec<u32>) -> Vec<u32>
 fn weights(alloc: Global, counts: &[u64], cones: &[Vec<u32>]) -> Result<Vec<u64>, NoMemory>
     requires cones { All (λ cone. All (λ c. c < length counts.now) cone.items) cones.now }
     requires few { All (λ count. count ≤ most_counted) counts.now }
-    requires many { All (λ cone. length cone.items ≤ 4096) cones.now }
+    requires many { All (λ cone. length cone.items ≤ MOST_CONTRACTS) cones.now }
     ensures sums { IfOk result (λ weights. weights.items
         ≡ map (λ cone. sum_by (λ c. slice_index counts.now c + 1) cone) (map (λ c. c.items) cones.now)) }
     ensures light { IfOk result (λ weights. All (λ weight. weight ≤ most_weight) weights.items) }
@@ -147,7 +147,7 @@ fn weights(alloc: Global, counts: &[u64], cones: &[Vec<u32>]) -> Result<Vec<u64>
 fn weight_over(counts: &[u64], contracts: &[u32]) -> u64
     requires contracts { All (λ c. c < length counts.now) contracts.now }
     requires few { All (λ count. count ≤ most_counted) counts.now }
-    requires many { length contracts.now ≤ 4096 }
+    requires many { length contracts.now ≤ MOST_CONTRACTS }
     ensures sum { result ≡ sum_by (λ c. slice_index counts.now c + 1) contracts.now }
     ensures light { result ≤ most_weight }
 {

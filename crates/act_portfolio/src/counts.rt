@@ -8,7 +8,7 @@ ghost use Rattle.act_portfolio.specs.Cones.{most_counted, numbers_of};
 ghost use Rattle.act_portfolio.specs.Counts.{count_by_itself, scheduled_count};
 ghost use Rattle.act_portfolio.specs.Known.{HavePlans};
 
-use act_model::{Kind, MOST_DATES, Plan, Terms};
+use act_model::{Kind, MOST_CONTRACTS, MOST_DATES, Plan, Terms};
 use act_num::NoMemory;
 use std::alloc::Global;
 use std::marker::Model;
@@ -49,7 +49,7 @@ impl<'a> Contracts<'a> {
 /// For each contract the scheduled events that it counts.
 pub(crate) fn scheduled_counts(alloc: Global, contracts: &Contracts) -> Result<Vec<u64>, NoMemory>
     requires planned { HavePlans contracts.now.terms contracts.now.plans }
-    requires few { length contracts.now.children ≤ 4096 }
+    requires few { length contracts.now.children ≤ MOST_CONTRACTS }
     ensures counts { IfOk result (λ counts. counts.items ≡ map (scheduled_count contracts.now) (numbers_of contracts.now)) }
     ensures few { IfOk result (λ counts. All (λ count. count ≤ most_counted) counts.items) }
 {

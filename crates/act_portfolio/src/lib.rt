@@ -18,4 +18,4 @@ mod reading;
 mod shadows;
 
 pub use fault::PortfolioFault;
-pub use portfolio::Portfolio;
+pub use portfolio::{Portfolio, runs_are_over_children};

@@ -1,5 +1,5 @@
 //! A portfolio that was accepted.
-ghost use Rattle.std.specs.Prelude.{◌≡◌, ◌^◌, ◌<◌, ◌≤◌, ℕ, Some, Ok, IfOk, IfErr, IfSome, length, map, slice_get, string_bytes};
+ghost use Rattle.std.specs.Prelude.{◌≡◌, ◌^◌, ◌<◌, ◌≤◌, ℕ, Some, Ok, [], IfOk, IfErr, IfSome, length, map, slice_get, slice_index_or, string_bytes};
 ghost use Rattle.std.specs.List.{All};
 ghost use Rattle.act_profile.specs.Built.{IsBuilt};
 ghost use Rattle.act_model.specs.declared.terms.Terms.{Terms};
@@ -9,6 +9,10 @@ ghost use Rattle.act_portfolio.specs.Cones.{most_counted, most_weight, reads_of}
 ghost use Rattle.act_portfolio.specs.Counts.{cone_sum, scheduled_count};
 ghost use Rattle.act_portfolio.specs.Reading.{portfolio_of};
 ghost use Rattle.act_portfolio.specs.Refusal.{refusal_of};
+ghost use Rattle.std.specs.Prelude.{List};
+ghost use Rattle.act_model.specs.Run.{EventPlan};
+ghost use Rattle.act_model.specs.declared.observed.Obs.{Obs};
+ghost use Rattle.act_profile.specs.Run.{Contracts, run_of, run_over};
 
 use crate::cones::Cones;
 use crate::fault::PortfolioFault;
@@ -117,12 +121,17 @@ impl Portfolio {
         self.unused.len() as u32
     }
 
-    /// The names of a contract's object that its kind doesn't use, in byte order.
+    /// The names of a contract's object that its kind doesn't use, in byte order; of a shadow, which has no object, none.
     pub fn unused(&self, contract: u32) -> &[String]
-        requires contract { contract < length self.now.names.contracts }
-        ensures { slice_get self.now.unused contract ≡ Some (map string_bytes result.now) }
+        requires contract { contract < length self.now.contracts.terms }
+        ensures unused { slice_index_or self.now.unused contract [] ≡ map string_bytes result.now }
+        ensures named { contract < length self.now.names.contracts
+            → slice_get self.now.unused contract ≡ Some (map string_bytes result.now) }
     {
-        &self.unused[contract as usize]
+        match self.unused.get(contract as usize) {
+            Some(names) => names,
+            None => &[],
+        }
     }
 
     /// How many scheduled events a contract counts, with those of a swap's legs and a cap's or floor's underlying. It takes no
@@ -162,3 +171,12 @@ impl Portfolio {
         self.names.copied()
     }
 }
+
+/// The run of a contract is that of its terms, its plan and its children's runs, in any portfolio whose contracts have an
+/// order.
+pub fn runs_are_over_children()
+    ensures { (contracts : Contracts) (entries : List Obs) (order : List ℕ) (c : ℕ) (terms : Terms) (plan : EventPlan) (children : List ℕ)
+        → order_of contracts.children ≡ Ok order → c < length contracts.children
+        → slice_get contracts.terms c ≡ Some terms → slice_get contracts.plans c ≡ Some plan → slice_get contracts.children c ≡ Some children
+        → run_of contracts entries c ≡ run_over terms plan entries (map (run_of contracts entries) children) }
+{}

@@ -6,3 +6,4 @@ pub mod Results
 pub mod Step
 pub mod Weight
 pub mod Spending
+pub mod Plain

@@ -1,15 +1,17 @@
 //! What a line says.
-ghost use Rattle.std.specs.Prelude.{◌≡◌, ◌≢◌, true, Err, codes, option_and_then, option_map, string_bytes};
+ghost use Rattle.std.specs.Prelude.{◌≡◌, ◌≢◌, true, Err, IfOk, codes, option_and_then, option_map, string_bytes};
 ghost use Rattle.std.specs.Result.{result_ok};
 ghost use Rattle.serde_json.specs.View.{view};
 ghost use Rattle.act_json.specs.Fields.{day_field, decimal_field, field_of, word_field};
 ghost use Rattle.act_model.specs.Name.{is_name};
 ghost use Rattle.act_script.specs.Form.{ask_form, credit_kind, event_form, form_of, given, happening, named_form, only_member, rate_form};
 
+use crate::plain::plain_rate;
 use act_date::Day;
 use act_json::{JsonFault, day, decimal, read, required, text, word};
 use act_model::{ObsKind, is_name};
-use act_num::Fixed;
+use act_num::{Fixed, NoMemory};
+use json::Scratch;
 use serde_json::Value;
 use std::alloc::Global;
 use std::marker::Model;
@@ -32,6 +34,15 @@ impl Model for Name {
 }
 
 impl Name {
+    /// The name of a text.
+    pub(crate) fn new(alloc: Global, text: &str) -> Result<Name, NoMemory>
+        requires { is_name text.now ≡ true }
+        ensures { IfOk result (λ name. name ≡ text.now) }
+    {
+        let text = String::from_str(alloc, text)?;
+        Ok(Name { text })
+    }
+
     /// Its text.
     pub(crate) fn as_str(&self) -> &str
         ensures text { result.now ≡ self.now }
@@ -63,9 +74,24 @@ pub(crate) enum Form {
     AskOne(Name),
 }
 
-/// What a line says, or a fault where it is of none of the forms.
+/// What a line says, or a fault where it is of none of the forms. `scratch` is room for reading.
+pub(crate) fn read_form(
+    alloc: Global,
+    line: &[u8],
+    scratch: &mut Scratch,
+) -> Result<Form, JsonFault>
+    ensures { result ≢ Err JsonFault.NoMemory → result_ok result ≡ form_of line.now }
+{
+    match plain_rate(alloc, line, scratch) {
+        Ok(Some(form)) => Ok(form),
+        Ok(None) => read_any_form(alloc, line),
+        Err(_) => Err(JsonFault::NoMemory),
+    }
+}
+
+/// What a line says, however it is written.
 #[tactic(auto, unfolding(crate::specs::Form::form_of))]
-pub(crate) fn read_form(alloc: Global, line: &[u8]) -> Result<Form, JsonFault>
+fn read_any_form(alloc: Global, line: &[u8]) -> Result<Form, JsonFault>
     ensures { result ≢ Err JsonFault.NoMemory → result_ok result ≡ form_of line.now }
 {
     let value = read(alloc, line)?;

@@ -4,6 +4,7 @@
 mod fault;
 mod form;
 mod lines;
+mod plain;
 mod reading;
 mod step;
 mod weight;

@@ -13,6 +13,7 @@ use crate::lines::{first_line, is_blank};
 use crate::step::{entries_with, step};
 use act_json::JsonFault;
 use act_model::{Line, MOST_BYTES, MOST_ENTRIES, Names, Terms};
+use json::Scratch;
 use std::alloc::Global;
 
 /// The lines read so far, and how many entries all scripts have then.
@@ -57,12 +58,13 @@ pub fn read_script(
         lines: Vec::new(alloc),
         entries: *entries,
     };
+    let mut scratch = Scratch::new(alloc);
     let mut number = 0;
     let mut rest = Some(bytes);
     'lines: while let Some(text) = rest {
         let (line, behind) = first_line(text);
         number += 1;
-        script.add(number, line, names, kinds)?;
+        script.add(number, line, names, kinds, &mut scratch)?;
         rest = behind;
     }
     *entries = script.entries;
@@ -70,7 +72,7 @@ pub fn read_script(
 }
 
 impl Script {
-    /// Adds the line of that number, unless it is blank.
+    /// Adds the line of that number, unless it is blank. `scratch` is room for reading.
     #[tactic(auto, unfolding(crate::specs::Reading::with_line))]
     fn add(
         &mut self,
@@ -78,6 +80,7 @@ impl Script {
         text: &[u8],
         names: &mut Names,
         kinds: &[Terms],
+        scratch: &mut Scratch,
     ) -> Result<(), ScriptFault>
         ensures script { IfOk result (λ _.
             with_text kinds.now (record { lines = self.old.lines.items; names = names.old; entries = self.old.entries }) number text.now
@@ -93,7 +96,7 @@ impl Script {
         if is_blank(text) {
             return Ok(());
         }
-        let form = line_form(*self.lines.allocator(), number, text)?;
+        let form = line_form(*self.lines.allocator(), number, text, scratch)?;
         let step = step(form, number, names, kinds)?;
         self.entries = entries_with(number, self.entries, &step)?;
         match self.lines.push(Line { step, line: number }) {
@@ -104,10 +107,15 @@ impl Script {
 }
 
 /// What the line of that number says, or NotLine.
-fn line_form(alloc: Global, number: u32, text: &[u8]) -> Result<Form, ScriptFault>
+fn line_form(
+    alloc: Global,
+    number: u32,
+    text: &[u8],
+    scratch: &mut Scratch,
+) -> Result<Form, ScriptFault>
     ensures { result ≢ Err ScriptFault.NoMemory → result ≡ ok_or (form_of text.now) (NotLine number) }
 {
-    match read_form(alloc, text) {
+    match read_form(alloc, text, scratch) {
         Ok(form) => Ok(form),
         Err(JsonFault::NoMemory) => Err(ScriptFault::NoMemory),
         Err(_) => Err(ScriptFault::NotLine(number)),

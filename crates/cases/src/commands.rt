@@ -2,6 +2,7 @@
 ghost use Rattle.std.specs.Prelude.{◌≡◌, ◌<◌};
 
 use crate::changes::{change, parts_around};
+use crate::kept::kept_told;
 use crate::outside::add_file;
 use crate::shadows::shadow_told;
 use crate::told::Told;
@@ -33,6 +34,7 @@ pub fn answer<F: Files>(told: &mut Told, words: &mut Words<'_>, files: &mut F, c
         "eval" | "payoffs" | "rates" => over(told, words, files, call, "eval p.json s.txt"),
         "refuse" => refused(told, words, files),
         "shadow" => shadow_told(told, words, files),
+        "kept" => kept_told(told, words, files),
         _ => told.fail(Trouble::NoCall),
     }
 }

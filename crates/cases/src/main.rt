@@ -8,6 +8,7 @@ mod commands;
 mod contracts;
 mod days;
 mod json;
+mod kept;
 mod many;
 mod naming;
 mod numbers;

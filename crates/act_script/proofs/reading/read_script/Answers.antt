@@ -37,10 +37,10 @@ lines-preserved c =
     }
 
 -- the script that is read
-whole : goal.In_default → Script
+whole : goal.After-drop-scratch-3 → Script
 whole c = record { lines = c.lines.script.lines.items; names = c.lines.names; entries = c.lines.script.entries }
 
-sound : (c : goal.In_default) → IsSound c.args.entries.now (whole c)
+sound : (c : goal.After-drop-scratch-3) → IsSound c.args.entries.now (whole c)
 unfolding whole
 sound c =
     let none : c.lines.rest ≡ None = search rules in

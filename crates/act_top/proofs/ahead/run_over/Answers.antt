@@ -7,9 +7,9 @@ use Rattle.std.proofs.lemmas.Result.{IfOk-weaker}
 use Rattle.act_model.specs.Run.{Stream}
 use Rattle.act_model.specs.declared.terms.Terms.{Terms}
 use Rattle.act_profile.specs.Run.{run_over}
+use Rattle.act_portfolio.proofs.Unrolling.{over-children}
 use Rattle.act_top.specs.Ahead.{run_at}
 use Rattle.act_top.proofs.Holding.{children-are, listed-there}
-use Rattle.act_top.proofs.Unrolling.{over-children}
 use Rattle.act_top.proofs.ahead.run_over.Goals as goal
 
 pub children_runs-requires-clause-within : goal.children_runs-requires-clause-within

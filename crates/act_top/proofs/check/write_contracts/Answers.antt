@@ -12,7 +12,7 @@ returns-in_err-write_contract-clause-text g c =
     let i = c.loop-contract.contract in
     let of = at-place p.contracts.terms c.terms.result.now (length p.contracts.terms) i c.index-terms-contract.result c.terms.ensures.terms refl (omega (arith, c.named-contract-end.ensures.within, c.loop-contract-test.true)) c.index-terms-contract.is ∙ ap (λ (t : Terms). Some t) c.index-terms-contract.is in
     let within : i < length p.names.contracts = omega (arith, c.named-contract-end.ensures.named) in
-    let here = contracts-next p i _ _ _ _ _ of (name-at p.names.contracts i within) c.unused.ensures (c.contract_name-id.ensures.text ∙ ap (λ (names : NameLists). name_of names.contracts i) c.requires.names) c.scheduled_count-count.ensures.count in
+    let here = contracts-next p i _ _ _ _ _ of (name-at p.names.contracts i within) (c.unused.ensures.named within) (c.contract_name-id.ensures.text ∙ ap (λ (names : NameLists). name_of names.contracts i) c.requires.names) c.scheduled_count-count.ensures.count in
     writes-part c.from_residual.result _ _ _ _ c.from_residual.ensures.1 (left-part c.in_err-write_contract.field-0.0 _ _ _ _ _ _ _ c.loop-contract.invariant.text here c.in_err-write_contract.ensures.text)
 
 pub loop-contract-preserved : goal.loop-contract-preserved
@@ -21,7 +21,7 @@ loop-contract-preserved g c =
     let i = c.loop-contract.contract in
     let of = at-place p.contracts.terms c.terms.result.now (length p.contracts.terms) i c.index-terms-contract.result c.terms.ensures.terms refl (omega (arith, c.named-contract-end.ensures.within, c.loop-contract-test.true)) c.index-terms-contract.is ∙ ap (λ (t : Terms). Some t) c.index-terms-contract.is in
     let within : i < length p.names.contracts = omega (arith, c.named-contract-end.ensures.named) in
-    let here = contracts-next p i _ _ _ _ _ of (name-at p.names.contracts i within) c.unused.ensures (c.contract_name-id.ensures.text ∙ ap (λ (names : NameLists). name_of names.contracts i) c.requires.names) c.scheduled_count-count.ensures.count in
+    let here = contracts-next p i _ _ _ _ _ of (name-at p.names.contracts i within) (c.unused.ensures.named within) (c.contract_name-id.ensures.text ∙ ap (λ (names : NameLists). name_of names.contracts i) c.requires.names) c.scheduled_count-count.ensures.count in
     record {
       text = left-next _ _ _ _ _ _ _ c.loop-contract.invariant.text here c.in_ok-write_contract.ensures.text;
       faults = c.in_ok-write_contract.ensures.faults ∙ c.loop-contract.invariant.faults;
