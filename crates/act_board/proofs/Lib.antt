@@ -1,0 +1,17 @@
+pub mod Answered
+pub mod Asked
+pub mod Between
+pub mod Boards
+pub mod Callers
+pub mod Claimed
+pub mod Extended
+pub mod Going
+pub mod Marking
+pub mod Moves
+pub mod Opened
+pub mod Ordered
+pub mod Pairs
+pub mod Places
+pub mod Quotas
+pub mod Reaching
+pub mod Told

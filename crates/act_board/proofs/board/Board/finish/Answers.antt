@@ -1,0 +1,107 @@
+use Rattle.std.proofs.Common.{◌≡◌, ℕ, true, false, List, [], ◌∷◌, ◌++◌, length, take, Some, refl, sym, ap, subst, ◌∙◌, arith, vec_capacity}
+use Rattle.std.specs.Arc.{arc_value}
+use Rattle.std.specs.List.{slice_get}
+use Rattle.std.proofs.lemmas.List.{length-set}
+use Rattle.std.proofs.lemmas.Option.{slice_get_within}
+use Rattle.act_model.specs.declared.observed.Obs.{Obs}
+use Rattle.act_portfolio.specs.Reading.{Accepted}
+use Rattle.act_profile.specs.Run.{run_of}
+use Rattle.act_refs.proofs.Turning.{written_back}
+use Rattle.act_board.specs.Calls.{IsOf}
+use Rattle.act_board.specs.History.{History, and_then, entries_of, is_claimed}
+use Rattle.act_board.specs.Kept.{IsPut, IsUnderWay, contract_at}
+use Rattle.act_board.specs.Work.{version}
+use Rattle.act_board.specs.declared.mark.Mark.{Mark}
+use Rattle.act_board.specs.declared.mark.Mark.TheVariants as mark
+use Rattle.act_board.specs.declared.pair.Pair.{Pair}
+use Rattle.act_board.specs.declared.pair.Progress.TheVariants.{Done}
+use Rattle.act_board.proofs.Claimed.{board-finished, claimed-told, owed-one, unclaimed-told}
+use Rattle.act_board.proofs.Told.{contract-is}
+use Rattle.act_board.proofs.board.Board.finish.Goals as goal
+
+pub returns-then-not-is_claimed : goal.returns-then-not-is_claimed
+returns-then-not-is_claimed c =
+    let b = c.self.inside in
+    let p : Accepted = arc_value b.portfolio in
+    let raw : History = record { portfolio = p; quotas = b.quotas.items; marks = b.marks.items } in
+    let v = c.into_parts-contract.result.1 in
+    let r = c.rank-rank.result in
+    let ranked : slice_get p.order r ≡ Some c.into_parts-contract.result.0 = ap (λ (q : Accepted). slice_get q.order r) (sym c.deref.ensures) ∙ c.rank-rank.ensures in
+    let same : contract_at raw r ≡ c.args.done.contract = contract-is p raw r c.into_parts-contract.result.0 refl ranked ∙ c.into_parts-contract.ensures.contract in
+    let none : ¬ (IsUnderWay b.pairs.items v r) = λ is. c.if-not-is_claimed.ensures.no refl (subst (λ (xs : List Pair). IsUnderWay xs v r) (sym c.deref-2.ensures.value) is) in
+    let free = unclaimed-told raw _ b.items.items b.book b.callers.items b.pairs.items b.front b.owing b.given_up c.self.invariant v r (slice_get_within p.order r c.into_parts-contract.result.0 ranked) none in
+    let here : is_claimed c.args.self.now c.args.done.contract (version c.args.done) ≡ false =
+    subst (λ (h : History). is_claimed h c.args.done.contract (version c.args.done) ≡ false) c.self.view_is
+    (subst (λ (w : ℕ). is_claimed raw c.args.done.contract w ≡ false) c.into_parts-contract.ensures.version (subst (λ (d : ℕ). is_claimed raw d v ≡ false) same free)) in
+    rw here refl
+
+pub overflow_sub-self : goal.overflow_sub-self
+overflow_sub-self c =
+    let b = c.self.inside in
+    let v = c.into_parts-contract.result.1 in
+    let r = c.rank-rank.result in
+    let run = c.into_parts-contract.result.2 in
+    let put = subst (λ (xs : List Pair). IsPut xs v r (Done run) c.put_progress.new.pairs) c.deref_mut.ensures.value c.put_progress.ensures in
+    let claimed = subst (λ (xs : List Pair). IsUnderWay xs v r) c.deref-2.ensures.value (c.if-not-is_claimed.ensures.yes refl) in
+    owed-one _ _ b.items.items b.book b.callers.items b.pairs.items b.front b.owing b.given_up c.self.invariant v r run c.put_progress.new.pairs put claimed
+
+pub put_mark-requires : goal.put_mark-requires
+put_mark-requires c =
+    let b = c.self.inside in
+    let v = c.into_parts-contract.result.1 in
+    let r = c.rank-rank.result in
+    let run = c.into_parts-contract.result.2 in
+    let put = subst (λ (xs : List Pair). IsPut xs v r (Done run) c.put_progress.new.pairs) c.deref_mut.ensures.value c.put_progress.ensures in
+    let claimed = subst (λ (xs : List Pair). IsUnderWay xs v r) c.deref-2.ensures.value (c.if-not-is_claimed.ensures.yes refl) in
+    let owes = owed-one _ _ b.items.items b.book b.callers.items b.pairs.items b.front b.owing b.given_up c.self.invariant v r run c.put_progress.new.pairs put claimed in
+    record { room = omega (arith, owes, c.self.invariant.room) }
+
+pub invariant_of-self : goal.invariant_of-self
+invariant_of-self c =
+    let b = c.self.inside in
+    let p : Accepted = arc_value b.portfolio in
+    let raw : History = record { portfolio = p; quotas = b.quotas.items; marks = b.marks.items } in
+    let v = c.into_parts-contract.result.1 in
+    let r = c.rank-rank.result in
+    let run = c.into_parts-contract.result.2 in
+    let d = c.into_parts-contract.result.0 in
+    let ranked : slice_get p.order r ≡ Some d = ap (λ (q : Accepted). slice_get q.order r) (sym c.deref.ensures) ∙ c.rank-rank.ensures in
+    let same : contract_at raw r ≡ d = contract-is p raw r d refl ranked in
+    let of = subst (λ (h : History). IsOf h c.args.done) (sym c.self.view_is) (record { portfolio = c.requires.portfolio; entries = c.requires.entries }) in
+    let put = subst (λ (xs : List Pair). IsPut xs v r (Done run) c.put_progress.new.pairs) c.deref_mut.ensures.value c.put_progress.ensures in
+    let claimed = subst (λ (xs : List Pair). IsUnderWay xs v r) c.deref-2.ensures.value (c.if-not-is_claimed.ensures.yes refl) in
+    let made : arc_value run ≡ run_of p.contracts (take v (entries_of raw)) (contract_at raw r) =
+    c.into_parts-contract.ensures.run
+    ∙ (ap (λ (q : Accepted). run_of q.contracts c.args.done.entries c.args.done.contract) of.portfolio
+    ∙ (ap (λ (xs : List Obs). run_of p.contracts xs c.args.done.contract) of.entries
+    ∙ (ap (λ (w : ℕ). run_of p.contracts (take w (entries_of raw)) c.args.done.contract) (sym c.into_parts-contract.ensures.version)
+    ∙ (ap (λ (e : ℕ). run_of p.contracts (take v (entries_of raw)) e) (sym c.into_parts-contract.ensures.contract)
+    ∙ ap (λ (e : ℕ). run_of p.contracts (take v (entries_of raw)) e) (sym same))))) in
+    let marked =
+    c.put_mark.ensures.added ∙ (ap (λ (m : Mark). b.marks.items ++ m ∷ []) c.finish.ensures ∙ ap (λ (e : ℕ). b.marks.items ++ mark.Finish e v ∷ []) (sym same)) in
+    rw (written_back b.pairs.len c.put_progress.new.pairs b.pairs.items (ap length put.is ∙ length-set b.pairs.items put.place (record { version = v; rank = r; progress = Done run })) (sym c.deref_mut.ensures.len ∙ ap length c.deref_mut.ensures.value))
+    (board-finished raw _ b.items.items b.book b.callers.items b.pairs.items b.front b.owing b.given_up c.self.invariant v r run c.put_progress.new.pairs c.put_mark.new.marks.items (vec_capacity c.put_mark.new.marks) put claimed
+    (slice_get_within p.order r d ranked) (made, c.into_parts-contract.ensures.in_day_order) marked c.put_mark.ensures.kept)
+
+pub returns : goal.returns
+returns c =
+    let b = c.self.inside in
+    let p : Accepted = arc_value b.portfolio in
+    let raw : History = record { portfolio = p; quotas = b.quotas.items; marks = b.marks.items } in
+    let v = c.into_parts-contract.result.1 in
+    let r = c.rank-rank.result in
+    let d = c.into_parts-contract.result.0 in
+    let ranked : slice_get p.order r ≡ Some d = ap (λ (q : Accepted). slice_get q.order r) (sym c.deref.ensures) ∙ c.rank-rank.ensures in
+    let same : contract_at raw r ≡ c.args.done.contract = contract-is p raw r d refl ranked ∙ c.into_parts-contract.ensures.contract in
+    let claimed = subst (λ (xs : List Pair). IsUnderWay xs v r) c.deref-2.ensures.value (c.if-not-is_claimed.ensures.yes refl) in
+    let so = claimed-told raw _ b.items.items b.book b.callers.items b.pairs.items b.front b.owing b.given_up c.self.invariant v r claimed in
+    let here : is_claimed c.args.self.now c.args.done.contract (version c.args.done) ≡ true =
+    subst (λ (h : History). is_claimed h c.args.done.contract (version c.args.done) ≡ true) c.self.view_is
+    (subst (λ (w : ℕ). is_claimed raw c.args.done.contract w ≡ true) c.into_parts-contract.ensures.version (subst (λ (e : ℕ). is_claimed raw e v ≡ true) same so)) in
+    let marked =
+    c.put_mark.ensures.added
+    ∙ (ap (λ (m : Mark). b.marks.items ++ m ∷ []) c.finish.ensures
+    ∙ (ap (λ (e : ℕ). b.marks.items ++ mark.Finish e v ∷ []) c.into_parts-contract.ensures.contract ∙ ap (λ (w : ℕ). b.marks.items ++ mark.Finish c.args.done.contract w ∷ []) c.into_parts-contract.ensures.version)) in
+    let went : record { portfolio = p; quotas = b.quotas.items; marks = c.put_mark.new.marks.items } ≡ and_then raw (mark.Finish c.args.done.contract (version c.args.done)) =
+    ap (λ (ms : List Mark). record { portfolio = p; quotas = b.quotas.items; marks = ms }) marked in
+    rw here (went ∙ ap (λ (h : History). and_then h (mark.Finish c.args.done.contract (version c.args.done))) c.self.view_is)

@@ -1,0 +1,21 @@
+use Rattle.std.proofs.Common.{◌≡◌, ◌+◌, ◌<◌, ◌≤◌, ℕ, List, Ok, [], length, ap, subst, ◌∙◌, arith, vec_capacity}
+use Rattle.std.specs.Arc.{arc_value}
+use Rattle.std.specs.List.{All}
+use Rattle.act_portfolio.specs.Reading.{Accepted}
+use Rattle.act_refs.specs.Ordered.{order_of}
+use Rattle.act_board.proofs.Opened.{board-fresh}
+use Rattle.act_board.proofs.board.Board.new.Goals as goal
+
+pub invariant_of-result : goal.invariant_of-result
+invariant_of-result c =
+    let portfolio : Accepted = arc_value c.args.portfolio in
+    let of = c.deref.ensures in
+    let quotas = c.args.quotas.now in
+    let ordered : order_of portfolio.contracts.children ≡ Ok portfolio.order = subst (λ (p : Accepted). order_of p.contracts.children ≡ Ok p.order) of c.order.ensures.ordered in
+    let count : length portfolio.contracts.children ≡ length portfolio.contracts.terms = subst (λ (p : Accepted). length p.contracts.children ≡ length p.contracts.terms) of c.order.ensures.count in
+    let numbered : All (λ contract. contract < length portfolio.contracts.terms) portfolio.order =
+    subst (λ (p : Accepted). All (λ contract. contract < length p.contracts.terms) p.order) of (subst (λ (xs : List ℕ). All (λ contract. contract < length c.deref.result.now.contracts.terms) xs) c.order.ensures.order c.order.ensures.numbered) in
+    let marks : c.make_room.new.marks.items ≡ [] = c.make_room.ensures.marks ∙ c.new-marks.ensures.items in
+    let room : length quotas + 1 ≤ vec_capacity c.make_room.new.marks = omega (arith, c.in_ok-make_room.ensures.room, ap length marks) in
+    rw (marks, c.in_ok-quotas.ensures.items, c.new.ensures.items, c.new-2.ensures, c.new-3.ensures.items)
+    (board-fresh portfolio quotas (vec_capacity c.make_room.new.marks) c.in_ok-callers.callers.items ordered count numbered c.in_ok-callers.ensures c.requires.few room c.requires.fits)

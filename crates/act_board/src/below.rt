@@ -1,0 +1,65 @@
+//! Which contracts are evaluated before those that are asked for.
+ghost use Rattle.std.specs.Prelude.{◌≡◌, ℕ, ◌-◌, ◌<◌, ◌≤◌, ◌||◌, false, length, replicate, slice_index_or, IfOk};
+ghost use Rattle.std.specs.List.{All, range_with_len};
+ghost use Rattle.act_profile.specs.Reads.{is_in};
+ghost use Rattle.act_board.specs.Reached.{AreBelow, is_wanted};
+
+use act_num::NoMemory;
+use act_portfolio::Portfolio;
+use std::alloc::Global;
+
+/// Marks what the contracts of these numbers, from one on, as far as to another, refer to, and what those refer to.
+pub(crate) fn below(
+    alloc: Global,
+    portfolio: &Portfolio,
+    first: u32,
+    end: u32,
+) -> Result<Vec<bool>, NoMemory>
+    ensures { IfOk result (λ below. AreBelow portfolio.now.contracts (range_with_len first (end - first)) below.items) }
+{
+    let mut below = none_marked(alloc, portfolio.terms().len())?;
+    let order = portfolio.order();
+    let mut place = order.len();
+    while place > 0 {
+        place -= 1;
+        let contract = order[place];
+        if is_wanted(&below, contract, first, end) {
+            mark(&mut below, portfolio.children(contract));
+        }
+    }
+    Ok(below)
+}
+
+/// So many contracts, none of which is marked.
+fn none_marked(alloc: Global, count: usize) -> Result<Vec<bool>, NoMemory>
+    ensures { IfOk result (λ marked. marked.items ≡ replicate count false) }
+{
+    Ok(vec![in alloc; false; count]?)
+}
+
+/// Whether a contract is one of these numbers, or marked.
+pub(crate) fn is_wanted(below: &[bool], contract: u32, first: u32, end: u32) -> bool
+    requires { contract < length below.now }
+    ensures { result ≡ is_wanted (range_with_len first (end - first)) below.now contract }
+{
+    is_between(contract, first, end) || below[contract as usize]
+}
+
+/// Whether a contract is one of these numbers.
+#[tactic(auto, using(crate::proofs::Between::between))]
+fn is_between(contract: u32, first: u32, end: u32) -> bool
+    ensures { result ≡ is_in (range_with_len first (end - first)) contract }
+{
+    first <= contract && contract < end
+}
+
+/// Marks contracts.
+fn mark(below: &mut [bool], contracts: &[u32])
+    requires { All (λ contract. contract < length below.old) contracts.now }
+    ensures marked { (c : ℕ) → slice_index_or below.new c false ≡ (slice_index_or below.old c false || is_in contracts.now c) }
+    ensures count { length below.new ≡ length below.old }
+{
+    for contract in contracts {
+        below[*contract as usize] = true;
+    }
+}

@@ -1,0 +1,335 @@
+//! The board.
+use crate::below::below;
+use crate::caller::{
+    Caller, MOST_ASKS, MOST_OPEN, all_left, callers_of, close_oldest, oldest, open_ask, set_left,
+    spend,
+};
+use crate::claiming::{are_ready, children_results, first_waiting, next_claimable, results_of};
+use crate::mark::Mark;
+use crate::outcome::{AppendFault, AskFault, Claim, Collected};
+use crate::pair::{Pair, Progress, is_claimed, put_progress};
+use crate::room::{append_entry, make_room, make_room_for_step, put_ask, put_entry, put_mark};
+use crate::wanting::{numbers, want_all};
+use crate::work::{Done, Task};
+use act_book::Book;
+use act_model::{Answer, Asked, Item, Obs};
+use act_num::NoMemory;
+use act_portfolio::Portfolio;
+use std::alloc::Global;
+use std::marker::Model;
+use std::sync::Arc;
+
+/// What callers and workers share: a book of entries, the asks of callers, and the evaluations that they ask for. Contracts
+/// see its history: the portfolio, how many entries each caller may append, and what has happened since.
+#[derive(Drop)]
+pub struct Board {
+    portfolio: Arc<Portfolio, Global>,
+    quotas: Vec<u64>,
+    marks: Vec<Mark>,
+    /// The steps among the marks.
+    items: Vec<Item>,
+    /// The entries among the steps.
+    book: Book,
+    callers: Vec<Caller>,
+    /// Each contract that was wanted, at each version, by version and then by rank.
+    pairs: Vec<Pair>,
+    /// No pair before this place is waiting.
+    front: usize,
+    /// How many marks are still to come for which there is room: one for each open ask, each caller that hasn't left, each
+    /// claim that hasn't come back, and one for giving up.
+    owing: usize,
+    given_up: bool,
+}
+
+impl Model for Board {
+    ghost use Rattle.std.specs.Prelude.{vec_capacity};
+    ghost use Rattle.std.specs.Arc.{arc_value};
+    ghost use Rattle.act_board.specs.History.{History};
+    ghost use Rattle.act_board.specs.Kept.{IsBoard};
+
+    ghost Value = { History };
+
+    ghost view = { λ b. record { portfolio = arc_value b.portfolio; quotas = b.quotas.items; marks = b.marks.items } };
+
+    ghost invariant = { λ b. IsBoard (record { portfolio = arc_value b.portfolio; quotas = b.quotas.items; marks = b.marks.items }) (vec_capacity b.marks) b.items.items b.book b.callers.items b.pairs.items b.front b.owing b.given_up };
+}
+
+impl Board {
+    ghost use Rattle.std.specs.Prelude.{ℕ, ◌≡◌, ◌↔◌, ◌⊎◌, ◌<◌, ◌≤◌, [], true, false, Err, length, sum, IfErr, IfOk};
+    ghost use Rattle.std.specs.Arc.{arc_value};
+    ghost use Rattle.act_model.specs.Journal.{is_known};
+    ghost use Rattle.act_model.specs.Observed.{is_entry};
+    ghost use Rattle.act_model.specs.declared.journal.Step.TheVariants as step;
+    ghost use Rattle.act_board.specs.Calls.{Claims, Collects, IsOf, after_finish, after_give_up};
+    ghost use Rattle.act_board.specs.History.{IsPresent, and_then, asks_by, is_given_up, journal_of, open_asks, version_of};
+    ghost use Rattle.act_board.specs.Legal.{HasQuota, IsFull, IsLegal, IsNext, IsSound};
+    ghost use Rattle.act_board.specs.Work as evaluation;
+    ghost use Rattle.act_board.specs.declared.mark.Mark.TheVariants as mark;
+    ghost use Rattle.act_board.specs.declared.outcome.AppendFault.TheVariants as appending;
+    ghost use Rattle.act_board.specs.declared.outcome.AskFault.TheVariants as asking;
+
+    /// A board on which nothing has happened, for as many callers as there are quotas, 1 to 16; each may append as many
+    /// entries as its quota says, together at most 1,048,576. What is added later is allocated by `alloc`.
+    pub fn new(
+        alloc: Global,
+        portfolio: Arc<Portfolio, Global>,
+        quotas: &[u64],
+    ) -> Result<Board, NoMemory>
+        requires some { 1 ≤ length quotas.now }
+        requires few { length quotas.now ≤ 16 }
+        requires fits { sum quotas.now ≤ 1_048_576 }
+        ensures { IfOk result (λ board. board ≡ record { portfolio = arc_value portfolio; quotas = quotas.now; marks = [] }) }
+    {
+        // A portfolio tells of its order only where it is asked for it, and the invariant speaks of that.
+        let _ = portfolio.order();
+        let owing = quotas.len() + 1;
+        let mut marks = Vec::new(alloc);
+        make_room(&mut marks, 0, owing)?;
+        let callers = callers_of(alloc, quotas)?;
+        let quotas = Vec::from_slice(alloc, quotas)?;
+        Ok(Board {
+            portfolio,
+            quotas,
+            marks,
+            items: Vec::new(alloc),
+            book: Book::new(alloc),
+            callers,
+            pairs: Vec::new(alloc),
+            front: 0,
+            owing,
+            given_up: false,
+        })
+    }
+
+    /// The steps of all callers, one after another.
+    pub fn journal(&self) -> &[Item]
+        ensures journal { result.now ≡ journal_of self.now }
+        ensures sound { IsSound self.now }
+    {
+        &self.items
+    }
+
+    /// How many entries the book has.
+    pub fn version(&self) -> u64
+        ensures { result ≡ version_of self.now }
+    {
+        self.book.len()
+    }
+
+    /// How many asks of a caller are open.
+    pub fn open_asks(&self, caller: u32) -> u32
+        requires from { 1 ≤ caller }
+        requires to { caller ≤ length self.now.quotas }
+        ensures { result ≡ length (open_asks self.now caller) }
+    {
+        self.callers[caller as usize - 1].open.len() as u32
+    }
+
+    /// A caller appends an entry to the book. It answers how many there are then.
+    pub fn append(&mut self, caller: u32, entry: Obs) -> Result<u64, AppendFault>
+        requires present { IsPresent self.old caller }
+        requires entry { is_entry entry ≡ true }
+        ensures appended { IfOk result (λ _. self.new ≡ and_then self.old (mark.Append caller entry)) }
+        ensures version { IfOk result (λ version. version ≡ version_of self.new) }
+        ensures given_up { (result ≡ Err appending.GivenUp) ↔ (is_given_up self.old ≡ true) }
+        ensures spent { (result ≡ Err appending.QuotaSpent) ↔ ((is_given_up self.old ≡ false) × ¬ (HasQuota self.old caller)) }
+        ensures unchanged { IfErr result (λ _. self.new ≡ self.old) }
+    {
+        if self.given_up {
+            return Err(AppendFault::GivenUp);
+        }
+        if self.callers[caller as usize - 1].remaining == 0 {
+            return Err(AppendFault::QuotaSpent);
+        }
+        match self.take_entry(caller, entry) {
+            Ok(version) => Ok(version),
+            Err(NoMemory) => Err(AppendFault::NoMemory),
+        }
+    }
+
+    /// Appends an entry of a caller that may append one. It answers how many there are then.
+    fn take_entry(&mut self, caller: u32, entry: Obs) -> Result<u64, NoMemory>
+        requires legal { IsLegal self.old (mark.Append caller entry) }
+        requires entry { is_entry entry ≡ true }
+        ensures appended { IfOk result (λ _. self.new ≡ and_then self.old (mark.Append caller entry)) }
+        ensures version { IfOk result (λ version. version ≡ version_of self.new) }
+        ensures unchanged { IfErr result (λ _. self.new ≡ self.old) }
+    {
+        make_room_for_step(&mut self.marks, &mut self.items, self.owing, 1)?;
+        let version = append_entry(&mut self.book, &entry)?;
+        spend(&mut self.callers, caller);
+        put_entry(&mut self.marks, &mut self.items, caller, &entry);
+        Ok(version)
+    }
+
+    /// A caller asks for evaluations over the entries that stand in the book. It answers the ask's number among the caller's.
+    pub fn ask(&mut self, caller: u32, asked: Asked) -> Result<u32, AskFault>
+        requires present { IsPresent self.old caller }
+        requires known { is_known self.old.portfolio.names (step.Ask asked) ≡ true }
+        ensures asked { IfOk result (λ _. self.new ≡ and_then self.old (mark.Ask caller asked)) }
+        ensures number { IfOk result (λ number. number ≡ length (asks_by self.new caller)) }
+        ensures given_up { (result ≡ Err asking.GivenUp) ↔ (is_given_up self.old ≡ true) }
+        ensures full { (result ≡ Err asking.AsksFull) ↔ ((is_given_up self.old ≡ false) × IsFull self.old caller) }
+        ensures unchanged { IfErr result (λ _. self.new ≡ self.old) }
+    {
+        if self.given_up {
+            return Err(AskFault::GivenUp);
+        }
+        let asking = &self.callers[caller as usize - 1];
+        if asking.open.len() >= MOST_OPEN || asking.asked >= MOST_ASKS {
+            return Err(AskFault::AsksFull);
+        }
+        match self.take_ask(caller, asked) {
+            Ok(number) => Ok(number),
+            Err(NoMemory) => Err(AskFault::NoMemory),
+        }
+    }
+
+    /// Takes an ask of a caller that may make one. It answers the ask's number among the caller's.
+    fn take_ask(&mut self, caller: u32, asked: Asked) -> Result<u32, NoMemory>
+        requires legal { IsLegal self.old (mark.Ask caller asked) }
+        requires known { is_known self.old.portfolio.names (step.Ask asked) ≡ true }
+        ensures asked { IfOk result (λ _. self.new ≡ and_then self.old (mark.Ask caller asked)) }
+        ensures number { IfOk result (λ number. number ≡ length (asks_by self.new caller)) }
+        ensures unchanged { IfErr result (λ _. self.new ≡ self.old) }
+    {
+        let version = self.book.len();
+        let (first, end) = numbers(&self.portfolio, asked);
+        let below = below(*self.items.allocator(), &self.portfolio, first, end)?;
+        make_room_for_step(&mut self.marks, &mut self.items, self.owing, 2)?;
+        self.pairs.reserve(self.portfolio.order().len())?;
+        let number = open_ask(&mut self.callers, caller, version, asked)?;
+        let start = want_all(
+            &mut self.pairs,
+            &self.portfolio,
+            version,
+            &below,
+            first,
+            end,
+        );
+        self.front = self.front.min(start);
+        self.owing += 1;
+        put_ask(&mut self.marks, &mut self.items, caller, asked);
+        Ok(number)
+    }
+
+    /// Hands out the evaluation that is next: of those that an open ask asks for or reaches, that have no result and aren't
+    /// claimed, and whose children have results, the one of the least version, and among these of the least place in the
+    /// portfolio's order. Memory can run out only where there is one.
+    pub fn claim(&mut self) -> Result<Claim, NoMemory>
+        ensures claimed { IfOk result (λ claim. Claims self.old claim self.new) }
+        ensures memory { IfErr result (λ _. (contract : ℕ) × (version : ℕ) × IsLegal self.old (mark.Claim contract version)) }
+        ensures unchanged { IfErr result (λ _. self.new ≡ self.old) }
+    {
+        if self.given_up {
+            return Ok(Claim::GivenUp);
+        }
+        let left = all_left(&self.callers);
+        self.front = first_waiting(&self.pairs, self.front);
+        match next_claimable(&self.portfolio, &self.pairs, self.front) {
+            Some(place) => {
+                let pair = &self.pairs[place];
+                let version = pair.version;
+                let contract = self.portfolio.order()[pair.rank as usize];
+                let task = self.hand_out(contract, version)?;
+                Ok(Claim::Task(task))
+            }
+            None if left => Ok(Claim::Ended),
+            None => Ok(Claim::Idle),
+        }
+    }
+
+    /// Hands out an evaluation.
+    fn hand_out(&mut self, contract: u32, version: u64) -> Result<Task, NoMemory>
+        requires going_on { is_given_up self.old ≡ false }
+        requires next { IsNext self.old contract version }
+        ensures work { IfOk result (λ work. IsOf self.old work) }
+        ensures contract { IfOk result (λ work. work.contract ≡ contract) }
+        ensures version { IfOk result (λ work. evaluation.version work ≡ version) }
+        ensures claimed { IfOk result (λ _. self.new ≡ and_then self.old (mark.Claim contract version)) }
+        ensures unchanged { IfErr result (λ _. self.new ≡ self.old) }
+    {
+        let alloc = *self.items.allocator();
+        let seen = self.book.snapshot(version)?;
+        let children = children_results(alloc, &self.portfolio, &self.pairs, contract, version)?;
+        make_room(&mut self.marks, self.owing, 2)?;
+        let task = Task::new(&self.portfolio, contract, seen, children);
+        let rank = self.portfolio.rank(contract);
+        put_progress(&mut self.pairs, version, rank, Progress::Claimed);
+        self.owing += 1;
+        put_mark(&mut self.marks, &Mark::claim(contract, version));
+        Ok(task)
+    }
+
+    /// Takes an evaluation that was made: where it is claimed, it is the contract's result at its version from here on;
+    /// otherwise it is dropped.
+    pub fn finish(&mut self, done: Done)
+        requires { IsOf self.old done }
+        ensures { self.new ≡ after_finish self.old done.contract (evaluation.version done) }
+    {
+        let (contract, version, run) = done.into_parts();
+        let rank = self.portfolio.rank(contract);
+        if !is_claimed(&self.pairs, version, rank) {
+            drop(run);
+            return;
+        }
+        put_progress(&mut self.pairs, version, rank, Progress::Done(run));
+        self.owing -= 1;
+        put_mark(&mut self.marks, &Mark::finish(contract, version));
+    }
+
+    /// Gives the board up, for want of memory; a task that is handed in is dropped. From then on `append`, `ask`, `claim` and
+    /// `collect` answer `GivenUp`, and the journal stays.
+    pub fn give_up(&mut self, task: Option<Task>)
+        ensures { self.new ≡ after_give_up self.old }
+    {
+        drop(task);
+        if self.given_up {
+            return;
+        }
+        self.given_up = true;
+        self.owing -= 1;
+        put_mark(&mut self.marks, &Mark::GiveUp);
+    }
+
+    /// Gives a caller the answer to the oldest of its asks that are open, once each contract that it asks for has a result.
+    /// Memory can run out only where it has.
+    pub fn collect(&mut self, caller: u32) -> Result<Collected, NoMemory>
+        requires present { IsPresent self.old caller }
+        requires asked { 0 < length (open_asks self.old caller) }
+        ensures collected { IfOk result (λ collected. Collects self.old caller collected self.new) }
+        ensures memory { IfErr result (λ _. IsLegal self.old (mark.Collect caller)) }
+        ensures unchanged { IfErr result (λ _. self.new ≡ self.old) }
+    {
+        if self.given_up {
+            return Ok(Collected::GivenUp);
+        }
+        let ask = oldest(&self.callers, caller);
+        let (first, end) = numbers(&self.portfolio, ask.asked);
+        if !are_ready(&self.portfolio, &self.pairs, ask.version, first, end) {
+            return Ok(Collected::NotYet);
+        }
+        let alloc = *self.items.allocator();
+        let runs = results_of(alloc, &self.portfolio, &self.pairs, ask.version, first, end)?;
+        close_oldest(&mut self.callers, caller);
+        self.owing -= 1;
+        put_mark(&mut self.marks, &Mark::collect(caller));
+        Ok(Collected::Ready(Answer {
+            caller: ask.caller,
+            number: ask.number,
+            version: ask.version,
+            runs,
+        }))
+    }
+
+    /// A caller leaves, which has no open ask, unless the board was given up.
+    pub fn leave(&mut self, caller: u32)
+        requires present { IsPresent self.old caller }
+        requires done { (open_asks self.old caller ≡ []) ⊎ (is_given_up self.old ≡ true) }
+        ensures { self.new ≡ and_then self.old (mark.Leave caller) }
+    {
+        set_left(&mut self.callers, caller);
+        self.owing -= 1;
+        put_mark(&mut self.marks, &Mark::leave(caller));
+    }
+}

@@ -1,0 +1,120 @@
+//! A contract at a version that was asked for.
+ghost use Rattle.std.specs.Prelude.{◌≡◌, ◌==◌, ◌&&◌, true, false, MatchOption};
+ghost use Rattle.act_board.specs.Kept.{AreSorted, HasAt, IsListed, IsPut, IsUnderWay, is_before, is_done, is_under_way, is_waiting};
+ghost use Rattle.act_board.specs.Wanting.{IsPlaceOf};
+
+use act_model::Run;
+use std::alloc::Global;
+use std::sync::Arc;
+
+/// A contract at a version that was asked for.
+#[derive(Drop)]
+pub(crate) struct Pair {
+    /// How many entries of the book it is evaluated over.
+    pub version: u64,
+    /// The contract's place in the reference order.
+    pub rank: u32,
+    /// How far it is.
+    pub progress: Progress,
+}
+
+/// How far an evaluation is.
+#[derive(Drop)]
+pub(crate) enum Progress {
+    /// It wasn't claimed yet.
+    Waiting,
+    /// It was claimed.
+    Claimed,
+    /// It came back.
+    Done(Arc<Run, Global>),
+}
+
+/// Whether it wasn't claimed yet.
+pub(crate) fn is_waiting(progress: &Progress) -> bool
+    ensures { result ≡ is_waiting progress.now }
+{
+    matches!(progress, Progress::Waiting)
+}
+
+/// Whether it was claimed and hasn't come back.
+pub(crate) fn is_under_way(progress: &Progress) -> bool
+    ensures { result ≡ is_under_way progress.now }
+{
+    matches!(progress, Progress::Claimed)
+}
+
+/// Whether it came back.
+pub(crate) fn is_done(progress: &Progress) -> bool
+    ensures { result ≡ is_done progress.now }
+{
+    matches!(progress, Progress::Done(_))
+}
+
+/// Whether a pair stands before those of a version and a rank.
+fn is_before(pair: &Pair, version: u64, rank: u32) -> bool
+    ensures { result ≡ is_before pair.now version rank }
+{
+    pair.version < version || (pair.version == version && pair.rank < rank)
+}
+
+/// The place of the first pair that doesn't stand before those of a version and a rank.
+pub(crate) fn place_of(pairs: &[Pair], version: u64, rank: u32) -> usize
+    requires sorted { AreSorted pairs.now }
+    ensures { IsPlaceOf pairs.now version rank result }
+{
+    let mut low = 0;
+    let mut high = pairs.len();
+    while low < high {
+        let middle = low + (high - low) / 2;
+        if is_before(&pairs[middle], version, rank) {
+            low = middle + 1;
+        } else {
+            high = middle;
+        }
+    }
+    low
+}
+
+/// Whether a pair is that of a version and a rank.
+fn is_of(pair: &Pair, version: u64, rank: u32) -> bool
+    ensures { result ≡ ((pair.now.version == version) && (pair.now.rank == rank)) }
+{
+    pair.version == version && pair.rank == rank
+}
+
+/// The place of the pair of a version and a rank, where there is one.
+pub(crate) fn find(pairs: &[Pair], version: u64, rank: u32) -> Option<usize>
+    requires sorted { AreSorted pairs.now }
+    ensures { MatchOption result (¬ (IsListed pairs.now version rank)) (λ place. HasAt pairs.now version rank place) }
+{
+    let place = place_of(pairs, version, rank);
+    if place < pairs.len() && is_of(&pairs[place], version, rank) {
+        Some(place)
+    } else {
+        None
+    }
+}
+
+/// Whether the pair of a version and a rank was claimed and hasn't come back.
+pub(crate) fn is_claimed(pairs: &[Pair], version: u64, rank: u32) -> bool
+    requires sorted { AreSorted pairs.now }
+    ensures yes { result ≡ true → IsUnderWay pairs.now version rank }
+    ensures no { result ≡ false → ¬ (IsUnderWay pairs.now version rank) }
+{
+    match find(pairs, version, rank) {
+        Some(place) => is_under_way(&pairs[place].progress),
+        None => false,
+    }
+}
+
+/// Writes how far the pair of a version and a rank is.
+pub(crate) fn put_progress(pairs: &mut [Pair], version: u64, rank: u32, progress: Progress)
+    requires sorted { AreSorted pairs.old }
+    requires listed { IsListed pairs.old version rank }
+    ensures { IsPut pairs.old version rank progress pairs.new }
+{
+    match find(pairs, version, rank) {
+        Some(place) => pairs[place].progress = progress,
+        None => unreachable!(),
+    }
+}

@@ -1,0 +1,211 @@
+//! A board that is driven: with what shows that its calls may be made.
+ghost use Rattle.std.specs.Prelude.{◌≡◌, true, false, length, replicate, IfOk};
+ghost use Rattle.act_model.specs.Journal.{is_known};
+ghost use Rattle.act_model.specs.declared.journal.Step.TheVariants as step;
+
+use act_board::{AppendFault, AskFault, Board, Claim, Collected, Task};
+use act_model::{Asked, Obs};
+use act_num::{NoMemory, Steps};
+use act_portfolio::Portfolio;
+use std::alloc::Global;
+use std::collections::VecDeque;
+use std::marker::Model;
+use std::sync::Arc;
+use std::sync::ledger::Ledger;
+
+/// What a claim is answered.
+#[derive(Clone, Copy, Debug, PartialEq, Eq)]
+pub enum Claimed {
+    /// The task of a contract at a version.
+    Task(u32, u64),
+    /// None now.
+    Idle,
+    /// None, and none will come.
+    Ended,
+    /// The board was given up.
+    GivenUp,
+}
+
+/// A board, who has left it, whether it was given up, and the tasks that it has handed out and that are still at hand.
+#[derive(Drop)]
+pub struct Driven {
+    board: Board,
+    portfolio: Arc<Portfolio, Global>,
+    left: Vec<bool>,
+    tasks: VecDeque<Task>,
+    given_up: bool,
+}
+
+impl Model for Driven {
+    ghost use Rattle.std.specs.Arc.{arc_value};
+    ghost use Rattle.act_board.specs.History.{History};
+    ghost use Rattle.board_cases.specs.Driven.{IsDriven};
+
+    ghost Value = { History };
+
+    ghost view = { λ d. d.board };
+
+    ghost invariant = { λ d. IsDriven d.board (arc_value d.portfolio) d.left.items d.tasks.items d.given_up };
+}
+
+impl Driven {
+    ghost use Rattle.std.specs.Prelude.{◌≡◌, ◌≤◌, true, length, sum};
+    ghost use Rattle.act_model.specs.Observed.{is_entry};
+    ghost use Rattle.act_board.specs.History.{IsPresent};
+
+    /// A board over a portfolio, for callers with these quotas.
+    pub fn new(
+        alloc: Global,
+        portfolio: &Arc<Portfolio, Global>,
+        quotas: &[u64],
+    ) -> Result<Driven, NoMemory>
+        requires some { 1 ≤ length quotas.now }
+        requires few { length quotas.now ≤ 16 }
+        requires fits { sum quotas.now ≤ 1_048_576 }
+    {
+        let left = none_left(alloc, quotas)?;
+        let own = Arc::try_clone(portfolio)?;
+        let portfolio = Arc::try_clone(portfolio)?;
+        let board = Board::new(alloc, own, quotas)?;
+        Ok(Driven {
+            board,
+            portfolio,
+            left,
+            tasks: VecDeque::new(alloc),
+            given_up: false,
+        })
+    }
+
+    /// Whether a number is that of a caller who hasn't left.
+    pub fn is_here(&self, caller: u32) -> bool
+        ensures { result ≡ true → IsPresent self.now caller }
+    {
+        if caller == 0 {
+            return false;
+        }
+        match self.left.get(caller as usize - 1) {
+            Some(left) => !*left,
+            None => false,
+        }
+    }
+
+    /// How many steps its journal has.
+    pub fn steps(&self) -> usize {
+        self.board.journal().len()
+    }
+
+    /// How many entries its book has.
+    pub fn version(&self) -> u64 {
+        self.board.version()
+    }
+
+    /// How many tasks are at hand.
+    pub fn tasks(&self) -> usize {
+        self.tasks.len()
+    }
+
+    /// How many asks of a caller are open, or None where there is no such caller or it has left.
+    pub fn open_asks(&self, caller: u32) -> Option<u32> {
+        if !self.is_here(caller) {
+            return None;
+        }
+        Some(self.board.open_asks(caller))
+    }
+
+    /// A caller appends an entry. None where it isn't here.
+    pub fn append(&mut self, caller: u32, entry: Obs) -> Option<Result<u64, AppendFault>>
+        requires entry { is_entry entry ≡ true }
+    {
+        if !self.is_here(caller) {
+            return None;
+        }
+        Some(self.board.append(caller, entry))
+    }
+
+    /// A caller asks. None where it isn't here, or there is no contract of that number.
+    pub fn ask(&mut self, caller: u32, asked: Asked) -> Option<Result<u32, AskFault>> {
+        if !self.is_here(caller) || !is_named(&self.portfolio, asked) {
+            return None;
+        }
+        Some(self.board.ask(caller, asked))
+    }
+
+    /// Claims a task, which is at hand from here on.
+    pub fn claim(&mut self) -> Result<Claimed, NoMemory> {
+        match self.board.claim()? {
+            Claim::Task(task) => {
+                let claimed = Claimed::Task(task.contract(), task.version());
+                let Ok(()) = self.tasks.push_back(task) else {
+                    return Err(NoMemory);
+                };
+                Ok(claimed)
+            }
+            Claim::Idle => Ok(Claimed::Idle),
+            Claim::Ended => Ok(Claimed::Ended),
+            Claim::GivenUp => Ok(Claimed::GivenUp),
+        }
+    }
+
+    /// Makes the task at a place and hands it back. It answers which it was, or None where there is none or memory runs out.
+    pub fn finish<L: Ledger>(
+        &mut self,
+        alloc: Global,
+        place: usize,
+        steps: &mut Steps<L>,
+    ) -> Option<(u32, u64)> {
+        let task = self.tasks.swap_remove_back(place)?;
+        let (contract, version) = (task.contract(), task.version());
+        match task.work(alloc, &self.portfolio, steps) {
+            Ok(done) => {
+                self.board.finish(done);
+                Some((contract, version))
+            }
+            Err(task) => {
+                drop(task);
+                None
+            }
+        }
+    }
+
+    /// Somebody gives up, and drops the task at a place, if there is one.
+    pub fn give_up(&mut self, place: usize) {
+        let task = self.tasks.swap_remove_back(place);
+        self.board.give_up(task);
+        self.given_up = true;
+    }
+
+    /// A caller collects. None where it isn't here or has no open ask.
+    pub fn collect(&mut self, caller: u32) -> Option<Result<Collected, NoMemory>> {
+        if !self.is_here(caller) || self.board.open_asks(caller) == 0 {
+            return None;
+        }
+        Some(self.board.collect(caller))
+    }
+
+    /// A caller leaves. False where it isn't here, or has an open ask and the board wasn't given up.
+    pub fn leave(&mut self, caller: u32) -> bool {
+        if !self.is_here(caller) || !(self.given_up || self.board.open_asks(caller) == 0) {
+            return false;
+        }
+        self.board.leave(caller);
+        self.left[caller as usize - 1] = true;
+        true
+    }
+}
+
+/// For each quota that its caller hasn't left.
+fn none_left(alloc: Global, quotas: &[u64]) -> Result<Vec<bool>, NoMemory>
+    ensures { IfOk result (λ left. left.items ≡ replicate (length quotas.now) false) }
+{
+    Ok(vec![in alloc; false; quotas.len()]?)
+}
+
+/// Whether what is asked for is there.
+fn is_named(portfolio: &Portfolio, asked: Asked) -> bool
+    ensures { result ≡ true → is_known portfolio.now.names (step.Ask asked) ≡ true }
+{
+    match asked {
+        Asked::All => true,
+        Asked::One(contract) => contract < portfolio.named(),
+    }
+}
