@@ -11,7 +11,7 @@ use Rattle.act_model.specs.declared.asks.Asking.{Asking}
 use Rattle.act_model.specs.declared.journal.Item.{Item}
 use Rattle.act_model.specs.declared.observed.Obs.{Obs}
 use Rattle.act_profile.specs.Reads.{is_in}
-use Rattle.act_board.specs.History.{History, and_then, has_result, is_give_up, is_given_up, open_asks, version_of}
+use Rattle.act_board.specs.History.{History, IsWanted, and_then, has_result, is_give_up, is_given_up, open_asks, version_of}
 use Rattle.act_board.specs.Kept.{AreCallers, ClosesOldest, IsAsk, IsBoard, IsCaller, owed_by}
 use Rattle.act_board.specs.Legal.{IsLegal, IsOldest, IsReady}
 use Rattle.act_board.specs.declared.caller.Caller.{Caller}
@@ -23,7 +23,9 @@ use Rattle.act_board.proofs.Callers.{caller-collected, callers-next, spares-coll
 use Rattle.act_board.proofs.Going.{any-not, asks-same, entries-same, journal-same, open-less, sound-next}
 use Rattle.act_board.proofs.Quotas.{some-at}
 use Rattle.act_board.proofs.Moves.{wanted-before, wanted-by-another}
+use Rattle.act_board.proofs.Between.{in-range}
 use Rattle.act_board.proofs.Pairs.{pairs-stay}
+use Rattle.act_board.proofs.Reaching.{reached-self}
 
 -- what is in a list
 pub contains-so : (xs : List ℕ) (a : ℕ) → is_in xs a ≡ true → Contains xs a
@@ -57,6 +59,24 @@ module _ (history : History) (ask : Asking) (first end : ℕ) (order : first ≤
       let at : first + (c - first) ≡ c = omega arith in
       ap (λ (d : ℕ). has_result history d ask.version) (sym at ∙ sym (get_or-range_with_len first (end - first) (c - first) 0 inside))
       ∙ subst (All (λ d. has_result history d ask.version ≡ true)) numbers ready (c - first) 0 lt
+
+-- what the oldest open ask of a caller asks for is wanted
+pub asked-wanted : (history : History) (ask : Asking) (i first end d : ℕ) → 1 ≤ i → i ≤ length history.quotas → IsOldest history i ask → first ≤ end → contracts_of history.portfolio.names ask.asked ≡ range_with_len first (end - first)
+    → end ≤ length history.portfolio.contracts.terms → first ≤ d → d < end → IsWanted history d ask.version
+asked-wanted history ask i first end d from to oldest order numbers exist above below = record {
+  caller = i;
+  from = from;
+  to = to;
+  ask = ask;
+  still_open = (0, slice_get_within (open_asks history i) 0 ask oldest, first-of (open_asks history i) ask oldest);
+  contract = omega arith;
+  version = refl;
+  reached = reached-self history.portfolio.contracts (contracts_of history.portfolio.names ask.asked) d (ap (λ (ks : List ℕ). is_in ks d) numbers ∙ in-range first (end - first) d above (omega arith));
+}
+  where
+    first-of : (asks : List Asking) (a : Asking) → slice_get asks 0 ≡ Some a → get_or asks 0 a ≡ a
+    first-of [] a is = absurd (cc)
+    first-of (x ∷ xs) a is = same_Some x a is
 
 -- ---- an answer
 

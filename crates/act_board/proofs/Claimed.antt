@@ -20,7 +20,7 @@ use Rattle.act_board.specs.declared.mark.Mark.{Mark}
 use Rattle.act_board.specs.declared.mark.Mark.TheVariants as mark
 use Rattle.act_board.specs.declared.pair.Pair.{Pair}
 use Rattle.act_board.specs.declared.pair.Progress.{Progress}
-use Rattle.act_board.specs.declared.pair.Progress.TheVariants.{Waiting, Claimed, Done}
+use Rattle.act_board.specs.declared.pair.Progress.TheVariants.{Waiting, Claimed, Done, Dropped}
 use Rattle.act_board.proofs.Boards.{open-none, same-none, stay-none}
 use Rattle.act_board.proofs.Callers.{callers-spared, spares-claim, spares-finish}
 use Rattle.act_board.proofs.Going.{any-not, entries-same, journal-same, sound-next}
@@ -35,26 +35,31 @@ waits-so : (history : History) (c v : ℕ) (p : Progress) → IsAt history c v p
 waits-so history c v Waiting at free none = refl
 waits-so history c v Claimed at free none = absurd (let so : is_claimed history c v ≡ true = rw (at.0, at.1) refl in cc)
 waits-so history c v (Done run) at free none = absurd (let so = at.0 in cc)
+waits-so history c v Dropped at free none = absurd (let so = at.0 in cc)
 
 free-so : (history : History) (c v : ℕ) (p : Progress) → IsAt history c v p → is_waiting p ≡ true → (is_claimed history c v ≡ false) × (has_result history c v ≡ false)
 free-so history c v Waiting at is = (rw at.0 refl, at.1)
 free-so history c v Claimed at is = absurd (cc)
 free-so history c v (Done run) at is = absurd (cc)
+free-so history c v Dropped at is = absurd (cc)
 
 claimed-so : (history : History) (c v : ℕ) (p : Progress) → IsAt history c v p → is_under_way p ≡ true → (is_claimed history c v ≡ true) × (is_waiting p ≡ false)
 claimed-so history c v Waiting at is = absurd (cc)
 claimed-so history c v Claimed at is = (rw (at.0, at.1) refl, refl)
 claimed-so history c v (Done run) at is = absurd (cc)
+claimed-so history c v Dropped at is = absurd (cc)
 
 under-way-so : (history : History) (c v : ℕ) (p : Progress) → IsAt history c v p → is_claimed history c v ≡ true → is_under_way p ≡ true
 under-way-so history c v Waiting at is = absurd (let not_so : is_claimed history c v ≡ false = rw at.0 refl in cc)
 under-way-so history c v Claimed at is = refl
 under-way-so history c v (Done run) at is = absurd (let parts = and_parts (was_claimed history c v) (not (has_result history c v)) is in let off : not (has_result history c v) ≡ false = rw at.0 refl in let on = parts.1 in cc)
+under-way-so history c v Dropped at is = absurd (let parts = and_parts (was_claimed history c v) (not (has_result history c v)) is in let off : not (has_result history c v) ≡ false = rw at.0 refl in let on = parts.1 in cc)
 
 owes-waiting : (p : Progress) → is_waiting p ≡ true → ◌≡◌ {A = ℕ} (cond (is_under_way p) 1 0) 0
 owes-waiting Waiting is = refl
 owes-waiting Claimed is = absurd (cc)
 owes-waiting (Done run) is = absurd (cc)
+owes-waiting Dropped is = absurd (cc)
 
 -- a list has an element at each of its places
 pub some-within : {X : Type 0} (xs : List X) (k : ℕ) → k < length xs → slice_get xs k ≡ None → ⊥

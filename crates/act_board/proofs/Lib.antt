@@ -4,6 +4,7 @@ pub mod Between
 pub mod Boards
 pub mod Callers
 pub mod Claimed
+pub mod Dropped
 pub mod Extended
 pub mod Going
 pub mod Marking

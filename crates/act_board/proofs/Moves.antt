@@ -14,7 +14,7 @@ use Rattle.act_profile.specs.Run.{run_of}
 use Rattle.act_refs.specs.Ordered.{order_of}
 use Rattle.act_refs.specs.Path.{IsChild}
 use Rattle.act_board.specs.History.{History, IsWanted, and_then, has_result, is_claim_of, is_finish_of, is_give_up, is_given_up, open_asks, version_of, was_claimed}
-use Rattle.act_board.specs.Kept.{ArePairs, Has, HaveResults, IsAt, IsListed, IsPair, IsPut, IsResult, contract_at, is_waiting}
+use Rattle.act_board.specs.Kept.{ArePairs, Has, HaveResults, IsAt, IsListed, IsOver, IsPair, IsPut, IsResult, contract_at, is_waiting}
 use Rattle.act_board.specs.Legal.{IsReady}
 use Rattle.act_board.specs.Reached.{is_reached}
 use Rattle.act_board.specs.Wanting.{IsExtended, IsNew}
@@ -22,9 +22,9 @@ use Rattle.act_board.specs.declared.mark.Mark.{Mark}
 use Rattle.act_board.specs.declared.mark.Mark.TheVariants as mark
 use Rattle.act_board.specs.declared.pair.Pair.{Pair}
 use Rattle.act_board.specs.declared.pair.Progress.{Progress}
-use Rattle.act_board.specs.declared.pair.Progress.TheVariants.{Waiting, Claimed, Done}
+use Rattle.act_board.specs.declared.pair.Progress.TheVariants.{Waiting, Claimed, Done, Dropped}
 use Rattle.act_board.proofs.Going.{any-not, any-yes}
-use Rattle.act_board.proofs.Pairs.{Stay, claimed-same, pair-same, put-cases, put-has, put-listed, put-other, put-sorted, ranks-apart, reached-done, result-same, result-stays}
+use Rattle.act_board.proofs.Pairs.{Stay, claimed-same, over-back, pair-same, put-cases, put-has, put-listed, put-other, put-sorted, ranks-apart, reached-done, result-same, result-stays}
 
 -- ---- an ask
 
@@ -127,6 +127,12 @@ module _ (history : History) (caller : ℕ) (asked : Asked) (old new : List Pair
           | inr none_yet ↦ none_yet
         ]
 
+    over-still : (w : ℕ) → IsOver history w → IsOver asking w
+    over-still w over = (
+      omega (arith, over.0, same),
+      λ c is. elim (wanted-cases c w is) [ inl before ↦ over.1 c before | inr now ↦ absurd (omega (arith, over.0, now.0)) ],
+    )
+
     listed-still : (w r : ℕ) → IsListed old w r → IsListed new w r
     listed-still w r listed = (listed.0, extended.kept listed.0 listed.1, listed.2, listed.3)
 
@@ -134,7 +140,7 @@ module _ (history : History) (caller : ℕ) (asked : Asked) (old new : List Pair
     pairs-asked = record {
       sorted = extended.sorted;
       each = λ pair has. elim (extended.only pair has) [
-        | inl there ↦ pair-same history ask-mark pair stay (omega (arith, same)) refl refl (are.each pair there)
+        | inl there ↦ pair-same history ask-mark pair stay (omega (arith, same)) refl refl (over-still pair.version) (are.each pair there)
         | inr new ↦ new-pair pair new
       ];
       children = λ pair has begun child refers. elim (extended.only pair has) [
@@ -199,7 +205,7 @@ module _ (history : History) (ordered : order_of history.portfolio.contracts.chi
       sorted = put-sorted old new v r p are.sorted put;
       each = λ pair has. elim (put-cases old new v r p are.sorted put has.0 pair has.1) [
         | inl here ↦ subst (IsPair claiming) here.1 claimed-pair
-        | inr other ↦ pair-same history (mark.Claim c v) pair stay grows (fails c (contract_at history pair.rank) v pair.version (elsewhere has.0 pair other.0 other.1)) refl (are.each pair (has.0, other.1))
+        | inr other ↦ pair-same history (mark.Claim c v) pair stay grows (fails c (contract_at history pair.rank) v pair.version (elsewhere has.0 pair other.0 other.1)) refl (over-back history (mark.Claim c v) grows wanted-back pair.version) (are.each pair (has.0, other.1))
       ];
       children = λ pair has begun child refers. elim (put-cases old new v r p are.sorted put has.0 pair has.1) [
         | inl here ↦
@@ -248,7 +254,7 @@ module _ (history : History) (ordered : order_of history.portfolio.contracts.chi
       sorted = put-sorted old new v r p are.sorted put;
       each = λ pair has. elim (put-cases old new v r p are.sorted put has.0 pair has.1) [
         | inl here ↦ subst (IsPair finishing) here.1 done-pair
-        | inr other ↦ pair-same history (mark.Finish c v) pair stay grows refl (fails c (contract_at history pair.rank) v pair.version (elsewhere has.0 pair other.0 other.1)) (are.each pair (has.0, other.1))
+        | inr other ↦ pair-same history (mark.Finish c v) pair stay grows refl (fails c (contract_at history pair.rank) v pair.version (elsewhere has.0 pair other.0 other.1)) (over-back history (mark.Finish c v) grows wanted-back pair.version) (are.each pair (has.0, other.1))
       ];
       children = λ pair has over child refers. elim (put-cases old new v r p are.sorted put has.0 pair has.1) [
         | inl here ↦
@@ -338,6 +344,7 @@ module _ (history : History) (caller : ℕ) (pairs : List Pair) (ordered : order
   no-result-yet c w Waiting is at = at.1
   no-result-yet c w Claimed is at = absurd (cc)
   no-result-yet c w (Done run) is at = absurd (cc)
+  no-result-yet c w Dropped is at = absurd (cc)
 
   pub wanted-by-another : is_given_up collecting ≡ false → (pair : Pair) → Has pairs pair → is_waiting pair.progress ≡ true → IsWanted collecting (contract_at history pair.rank) pair.version
   wanted-by-another going pair has waits =

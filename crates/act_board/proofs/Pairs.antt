@@ -17,13 +17,13 @@ use Rattle.act_refs.proofs.Ordering.{order_of-reference}
 use Rattle.act_refs.proofs.Paths.{HasPath-first, HasPath-nowhere, IsChild-within}
 use Rattle.act_model.specs.Journal.{contracts_of}
 use Rattle.act_board.specs.History.{History, IsWanted, and_then, entries_of, has_result, is_claim_of, is_finish_of, is_given_up, open_asks, version_of, was_claimed}
-use Rattle.act_board.specs.Kept.{ArePairs, AreSorted, Has, IsAt, IsListed, IsPair, IsPut, contract_at, is_before, is_waiting, owed_for}
+use Rattle.act_board.specs.Kept.{ArePairs, AreSorted, Has, IsAt, IsListed, IsOver, IsPair, IsPut, contract_at, is_before, is_waiting, owed_for}
 use Rattle.act_board.specs.Legal.{IsReady}
 use Rattle.act_board.specs.Reached.{is_reached}
 use Rattle.act_board.specs.declared.mark.Mark.{Mark}
 use Rattle.act_board.specs.declared.pair.Pair.{Pair}
 use Rattle.act_board.specs.declared.pair.Progress.{Progress}
-use Rattle.act_board.specs.declared.pair.Progress.TheVariants.{Waiting, Claimed, Done}
+use Rattle.act_board.specs.declared.pair.Progress.TheVariants.{Waiting, Claimed, Done, Dropped}
 use Rattle.act_board.proofs.Going.{any-not, any-yes}
 use Rattle.act_board.proofs.Ordered.{one-only}
 use Rattle.act_board.proofs.Places.{get-set, get-set_cases, get-set_other}
@@ -52,19 +52,24 @@ module _ (history : History) (m : Mark) where
   abbrev pub Stay : Type 0
   Stay = (v : ℕ) → v ≤ version_of history → take v (entries_of after) ≡ take v (entries_of history)
 
-  at-same : (c v : ℕ) (p : Progress) → Stay → v ≤ version_of history → is_claim_of c v m ≡ false → is_finish_of c v m ≡ false → IsAt history c v p → IsAt after c v p
-  at-same c v Waiting stay within no_claim no_finish at = (claimed-same c v no_claim ∙ at.0, result-same c v no_finish ∙ at.1)
-  at-same c v Claimed stay within no_claim no_finish at = (claimed-same c v no_claim ∙ at.0, result-same c v no_finish ∙ at.1)
-  at-same c v (Done run) stay within no_claim no_finish at =
+  -- nothing can be asked for that couldn't
+  pub over-back : version_of history ≤ version_of after → ((c v : ℕ) → IsWanted after c v → IsWanted history c v) → (v : ℕ) → IsOver history v → IsOver after v
+  over-back grows back v over = (omega (arith, over.0, grows), λ c wanted. over.1 c (back c v wanted))
+
+  at-same : (c v : ℕ) (p : Progress) → Stay → v ≤ version_of history → is_claim_of c v m ≡ false → is_finish_of c v m ≡ false → (IsOver history v → IsOver after v) → IsAt history c v p → IsAt after c v p
+  at-same c v Waiting stay within no_claim no_finish over at = (claimed-same c v no_claim ∙ at.0, result-same c v no_finish ∙ at.1)
+  at-same c v Claimed stay within no_claim no_finish over at = (claimed-same c v no_claim ∙ at.0, result-same c v no_finish ∙ at.1)
+  at-same c v Dropped stay within no_claim no_finish over at = (result-same c v no_finish ∙ at.0, over at.1)
+  at-same c v (Done run) stay within no_claim no_finish over at =
       (result-same c v no_finish ∙ at.0, (at.1.0 ∙ ap (λ (entries : List Obs). run_of history.portfolio.contracts entries c) (sym (stay v within)), at.1.1))
 
   -- a pair of which nothing is said stays as it is
   pub pair-same : (pair : Pair) → Stay → version_of history ≤ version_of after → is_claim_of (contract_at history pair.rank) pair.version m ≡ false → is_finish_of (contract_at history pair.rank) pair.version m ≡ false
-      → IsPair history pair → IsPair after pair
-  pair-same pair stay grows no_claim no_finish is = record {
+      → (IsOver history pair.version → IsOver after pair.version) → IsPair history pair → IsPair after pair
+  pair-same pair stay grows no_claim no_finish over is = record {
     version = omega (arith, is.version, grows);
     rank = is.rank;
-    at = at-same (contract_at history pair.rank) pair.version pair.progress stay is.version no_claim no_finish is.at;
+    at = at-same (contract_at history pair.rank) pair.version pair.progress stay is.version no_claim no_finish over is.at;
   }
 
   -- ---- marks that claim and finish nothing
@@ -75,7 +80,7 @@ module _ (history : History) (m : Mark) where
       → ArePairs history pairs → ArePairs after pairs
   pairs-stay pairs stay grows no_claim no_finish back waits are = record {
     sorted = are.sorted;
-    each = λ pair has. pair-same pair stay grows (no_claim _ _) (no_finish _ _) (are.each pair has);
+    each = λ pair has. pair-same pair stay grows (no_claim _ _) (no_finish _ _) (over-back grows back pair.version) (are.each pair has);
     children = λ pair has begun child refers. result-stays child pair.version (are.children pair has begun child refers);
     waiting = waits;
     wanted = λ v r within is. are.wanted v r within (back (contract_at history r) v is);
@@ -144,6 +149,7 @@ module _ (history : History) (pairs : List Pair) (ordered : order_of history.por
   not-waiting c v Waiting at is = absurd (let none = at.1 in cc)
   not-waiting c v Claimed at is = refl
   not-waiting c v (Done run) at is = refl
+  not-waiting c v Dropped at is = refl
 
   child-done : (c v child : ℕ) → has_result history c v ≡ true → IsChild history.portfolio.contracts.children c child → has_result history child v ≡ true
   child-done c v child is refers =

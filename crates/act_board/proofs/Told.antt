@@ -8,11 +8,11 @@ use Rattle.std.proofs.lemmas.List.{get_or_default}
 use Rattle.std.proofs.lemmas.Option.{get_or_from_slice_get, slice_get_within}
 use Rattle.act_portfolio.specs.Reading.{Accepted}
 use Rattle.act_refs.specs.Path.{IsChild, children_of}
-use Rattle.act_board.specs.History.{History, has_result}
-use Rattle.act_board.specs.Kept.{AreSorted, IsAt, IsListed, IsResult, IsThere, Keeps, contract_at, is_done}
+use Rattle.act_board.specs.History.{History, IsWanted, has_result}
+use Rattle.act_board.specs.Kept.{AreSorted, IsAt, IsListed, IsResult, IsThere, Keeps, contract_at, is_done, is_kept}
 use Rattle.act_board.specs.declared.pair.Pair.{Pair}
 use Rattle.act_board.specs.declared.pair.Progress.{Progress}
-use Rattle.act_board.specs.declared.pair.Progress.TheVariants.{Waiting, Claimed, Done}
+use Rattle.act_board.specs.declared.pair.Progress.TheVariants.{Waiting, Claimed, Done, Dropped}
 use Rattle.act_board.proofs.Ordered.{same-pair}
 
 -- the contract of a rank
@@ -27,6 +27,14 @@ done-is : (history : History) (c v : ℕ) (p : Progress) → IsAt history c v p 
 done-is history c v Waiting at = sym at.1
 done-is history c v Claimed at = sym at.1
 done-is history c v (Done run) at = sym at.0
+done-is history c v Dropped at = sym at.0
+
+-- a result that is wanted is kept
+kept-so : (history : History) (c v d : ℕ) (p : Progress) → IsAt history c v p → IsWanted history d v → is_done p ≡ true → is_kept p ≡ true
+kept-so history c v d Waiting at wanted is = absurd (cc)
+kept-so history c v d Claimed at wanted is = absurd (cc)
+kept-so history c v d (Done run) at wanted is = refl
+kept-so history c v d Dropped at wanted is = absurd (at.1.1 d wanted)
 
 pub result-at : (history : History) (c v : ℕ) (p : Progress) (run : _) → p ≡ Done run → IsAt history c v p → IsResult history c v (arc_value run)
 result-at history c v p run is at = (subst (IsAt history c v) is at).1
@@ -56,10 +64,15 @@ module _ (portfolio : Accepted) (pairs : List Pair) (history : History) (keeps :
   result-there k r c v pair run at version rank ranked is = result-at history c v pair.progress run is (at-of k r c v pair at version rank ranked)
 
   -- where there is one it is there
-  pub there : (c v : ℕ) → has_result history c v ≡ true → IsThere portfolio pairs c v
-  there c v is = λ r ranked.
-      let listed = keeps.0.done v r (rank-within portfolio history r c of ranked) (ap (λ (d : ℕ). has_result history d v) (contract-is portfolio history r c of ranked) ∙ is) in
-      (listed.0, listed.1, listed.2, listed.3, result-is listed.1.0 r c v listed.0 listed.1.1 listed.2 listed.3 ranked ∙ is)
+  pub there : (c v d : ℕ) → IsWanted history d v → has_result history c v ≡ true → IsThere portfolio pairs c v
+  there c v d wanted is = λ r ranked.
+      let listed = keeps.0.done v r (rank-within portfolio history r c of ranked) (ap (λ (d : ℕ). has_result history d v) (contract-is portfolio history r c of ranked) ∙ is) in (
+        listed.0,
+        listed.1,
+        listed.2,
+        listed.3,
+        kept-so history c v d listed.0.progress (at-of listed.1.0 r c v listed.0 listed.1.1 listed.2 listed.3 ranked) wanted (result-is listed.1.0 r c v listed.0 listed.1.1 listed.2 listed.3 ranked ∙ is),
+      )
 
 -- the children of a contract, by the portfolio's own list
 pub child-listed : (portfolio : Accepted) (history : History) (c child : ℕ) (children : List ℕ) → history.portfolio ≡ portfolio → slice_get portfolio.contracts.children c ≡ Some children
@@ -82,18 +95,19 @@ listed-in graph c k children refers within =
     subst (λ (xs : List ℕ). Contains xs (get_or children k 0)) (sym (get_or_from_slice_get graph c children [] refers)) (k, within, get_or_default children k (get_or children k 0) 0 within)
 
 -- what is done has a run
-pub done-run : (p : Progress) → is_done p ≡ true → ((run : _) → p ≡ Done run → ⊥) → ⊥
+pub done-run : (p : Progress) → is_kept p ≡ true → ((run : _) → p ≡ Done run → ⊥) → ⊥
 done-run Waiting is not = absurd (cc)
 done-run Claimed is not = absurd (cc)
 done-run (Done run) is not = not run refl
+done-run Dropped is not = absurd (cc)
 
 -- one that is there is found done
 pub found-done : (portfolio : Accepted) (pairs : List Pair) (c v r k : ℕ) (pair : Pair) → AreSorted pairs → IsThere portfolio pairs c v → slice_get portfolio.order r ≡ Some c
-    → slice_get pairs k ≡ Some pair → pair.version ≡ v → pair.rank ≡ r → is_done pair.progress ≡ true
+    → slice_get pairs k ≡ Some pair → pair.version ≡ v → pair.rank ≡ r → is_kept pair.progress ≡ true
 found-done portfolio pairs c v r k pair sorted is ranked at version rank =
     let one = is r ranked in
     let same : one.0 ≡ pair = same-pair pairs sorted one.1.0 k one.0 pair one.1.1 at (one.2 ∙ sym version) (one.3 ∙ sym rank) in
-    ap (λ (p : Pair). is_done p.progress) (sym same) ∙ one.4
+    ap (λ (p : Pair). is_kept p.progress) (sym same) ∙ one.4
 
 -- what holds anyway holds of an error
 pub told-anyway : {A E : Type 0} (r : Result A E) (P : Type 0) → P → IfErr r (λ _. P)

@@ -21,7 +21,7 @@ use Rattle.act_board.specs.Legal.{IsSound, most_asks, most_open}
 use Rattle.act_board.specs.declared.caller.Caller.{Caller}
 use Rattle.act_board.specs.declared.pair.Pair.{Pair}
 use Rattle.act_board.specs.declared.pair.Progress.{Progress}
-use Rattle.act_board.specs.declared.pair.Progress.TheVariants.{Waiting, Claimed, Done}
+use Rattle.act_board.specs.declared.pair.Progress.TheVariants.{Waiting, Claimed, Done, Dropped}
 
 -- ---- callers
 
@@ -143,16 +143,26 @@ abbrev pub is_waiting : Progress → Bool
 is_waiting Waiting = true
 is_waiting Claimed = false
 is_waiting (Done run) = false
+is_waiting Dropped = false
 
 abbrev pub is_under_way : Progress → Bool
 is_under_way Waiting = false
 is_under_way Claimed = true
 is_under_way (Done run) = false
+is_under_way Dropped = false
 
 abbrev pub is_done : Progress → Bool
 is_done Waiting = false
 is_done Claimed = false
 is_done (Done run) = true
+is_done Dropped = true
+
+-- its run is there
+abbrev pub is_kept : Progress → Bool
+is_kept Waiting = false
+is_kept Claimed = false
+is_kept (Done run) = true
+is_kept Dropped = false
 
 -- the pair of a version and a rank was claimed and hasn't come back
 abbrev pub IsUnderWay : List Pair → ℕ → ℕ → Type 0
@@ -175,11 +185,16 @@ contract_at history rank = slice_index_or history.portfolio.order rank 0
 abbrev pub IsResult : History → ℕ → ℕ → Stream → Type 0
 IsResult history c v run = (run ≡ run_of history.portfolio.contracts (take v (entries_of history)) c) × AreInDayOrder run.rows
 
+-- nobody can ask for results of a version: it is before the book's, and nothing is wanted at it
+abbrev pub IsOver : History → ℕ → Type 0
+IsOver history v = (v < version_of history) × ((c : ℕ) → ¬ (IsWanted history c v))
+
 -- how far a contract at a version is
 abbrev pub IsAt : History → ℕ → ℕ → Progress → Type 0
 IsAt history c v Waiting = (was_claimed history c v ≡ false) × (has_result history c v ≡ false)
 IsAt history c v Claimed = (was_claimed history c v ≡ true) × (has_result history c v ≡ false)
 IsAt history c v (Done run) = (has_result history c v ≡ true) × IsResult history c v (arc_value run)
+IsAt history c v Dropped = (has_result history c v ≡ true) × IsOver history v
 
 -- what is kept of a pair
 pub record IsPair (history : History) (pair : Pair) : Type 0 where
@@ -226,7 +241,7 @@ Keeps portfolio pairs history = ArePairs history pairs × (history.portfolio ≡
 -- the result of a contract at a version is there
 abbrev pub IsThere : Accepted → List Pair → ℕ → ℕ → Type 0
 IsThere portfolio pairs c v =
-    (r : ℕ) → slice_get portfolio.order r ≡ Some c → (pair : Pair) × Has pairs pair × (pair.version ≡ v) × (pair.rank ≡ r) × (is_done pair.progress ≡ true)
+    (r : ℕ) → slice_get portfolio.order r ≡ Some c → (pair : Pair) × Has pairs pair × (pair.version ≡ v) × (pair.rank ≡ r) × (is_kept pair.progress ≡ true)
 
 -- runs are the results of some contracts at a version
 abbrev pub AreResults : History → ℕ → List ℕ → List Stream → Type 0

@@ -1,4 +1,5 @@
 pub mod Calls
+pub mod Dropping
 pub mod History
 pub mod Kept
 pub mod Legal

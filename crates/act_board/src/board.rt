@@ -5,6 +5,7 @@ use crate::caller::{
     spend,
 };
 use crate::claiming::{are_ready, children_results, first_waiting, next_claimable, results_of};
+use crate::dropping::drop_results;
 use crate::mark::Mark;
 use crate::outcome::{AppendFault, AskFault, Claim, Collected};
 use crate::pair::{Pair, Progress, is_claimed, put_progress};
@@ -35,6 +36,8 @@ pub struct Board {
     pairs: Vec<Pair>,
     /// No pair before this place is waiting.
     front: usize,
+    /// No pair before this place has a run: nobody can ask for them any more.
+    dropped: usize,
     /// How many marks are still to come for which there is room: one for each open ask, each caller that hasn't left, each
     /// claim that hasn't come back, and one for giving up.
     owing: usize,
@@ -96,6 +99,7 @@ impl Board {
             callers,
             pairs: Vec::new(alloc),
             front: 0,
+            dropped: 0,
             owing,
             given_up: false,
         })
@@ -179,10 +183,19 @@ impl Board {
         if asking.open.len() >= MOST_OPEN || asking.asked >= MOST_ASKS {
             return Err(AskFault::AsksFull);
         }
+        self.drop_results();
         match self.take_ask(caller, asked) {
             Ok(number) => Ok(number),
             Err(NoMemory) => Err(AskFault::NoMemory),
         }
+    }
+
+    /// Drops the runs that nobody can ask for any more: of versions before the book's that no open ask is of.
+    fn drop_results(&mut self)
+        ensures { self.new ≡ self.old }
+    {
+        let version = self.book.len();
+        self.dropped = drop_results(&mut self.pairs, self.dropped, &self.callers, version);
     }
 
     /// Takes an ask of a caller that may make one. It answers the ask's number among the caller's.

@@ -6,6 +6,7 @@ mod below;
 mod board;
 mod caller;
 mod claiming;
+mod dropping;
 mod mark;
 mod outcome;
 mod pair;

@@ -27,6 +27,8 @@ pub(crate) enum Progress {
     Claimed,
     /// It came back.
     Done(Arc<Run, Global>),
+    /// It came back, and nobody can ask for it any more.
+    Dropped,
 }
 
 /// Whether it wasn't claimed yet.
@@ -47,7 +49,7 @@ pub(crate) fn is_under_way(progress: &Progress) -> bool
 pub(crate) fn is_done(progress: &Progress) -> bool
     ensures { result ≡ is_done progress.now }
 {
-    matches!(progress, Progress::Done(_))
+    matches!(progress, Progress::Done(_) | Progress::Dropped)
 }
 
 /// Whether a pair stands before those of a version and a rank.

@@ -1,5 +1,5 @@
 -- What is kept of a portfolio, looked up by the number of a contract.
-use Rattle.std.proofs.Common.{◌≡◌, ℕ, ◌<◌, ◌≤◌, List, length, map, Some, None, option_map, Ok, Vec, Global, inl, inr, get_or, refl, sym, ap, ◌∙◌, arith, slice_get}
+use Rattle.std.proofs.Common.{◌≡◌, ℕ, ◌<◌, ◌≤◌, List, [], length, map, Some, None, option_map, Ok, Vec, Global, inl, inr, get_or, refl, sym, ap, subst, ◌∙◌, arith, slice_get}
 use Rattle.std.specs.List.{All, range_with_len}
 use Rattle.std.proofs.lemmas.List.{get_or_default, length-map}
 use Rattle.std.proofs.lemmas.List.Elements.{All-get_or}
@@ -11,7 +11,9 @@ use Rattle.act_model.specs.Run.{EventPlan}
 use Rattle.act_model.specs.declared.terms.Terms.{Terms}
 use Rattle.act_profile.specs.Plan.{plan_of}
 use Rattle.act_refs.specs.Ordered.{order_of}
+use Rattle.act_refs.specs.Path.{IsChild}
 use Rattle.act_refs.proofs.Ordering.{order_of-reference}
+use Rattle.act_refs.proofs.Paths.{IsChild-within}
 use Rattle.act_portfolio.specs.Cones.{most_counted, most_weight, reads_of}
 use Rattle.act_portfolio.specs.Counts.{cone_sum, scheduled_count}
 use Rattle.act_portfolio.specs.Known.{IsPortfolio}
@@ -81,3 +83,9 @@ module _ (portfolio : Accepted) (places events sums : List ℕ) (readings : List
 
   pub reads_at : (read : Readings) → read ≡ get_or readings c read → read ≡ reads_of portfolio.contracts c
   reads_at read is = kept_at (reads_of portfolio.contracts) readings _ c read kept.cones.reads inside is
+
+-- each child is a contract
+pub children_exist : (graph : List (List ℕ)) (n : ℕ) → All (All (λ child. child < n)) graph → (parent child : ℕ) → IsChild graph parent child → child < n
+children_exist graph n all parent child has =
+    let each = all parent [] (IsChild-within graph parent child has) in
+    subst (λ (k : ℕ). k < n) has.2 (each has.0 child has.1)

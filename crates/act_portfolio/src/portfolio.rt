@@ -5,6 +5,7 @@ ghost use Rattle.act_profile.specs.Built.{IsBuilt};
 ghost use Rattle.act_model.specs.declared.terms.Terms.{Terms};
 ghost use Rattle.act_profile.specs.Plan.{plan_of};
 ghost use Rattle.act_refs.specs.Ordered.{order_of};
+ghost use Rattle.act_refs.specs.Path.{IsChild};
 ghost use Rattle.act_portfolio.specs.Cones.{most_counted, most_weight, reads_of};
 ghost use Rattle.act_portfolio.specs.Counts.{cone_sum, scheduled_count};
 ghost use Rattle.act_portfolio.specs.Reading.{portfolio_of};
@@ -100,6 +101,7 @@ impl Portfolio {
         ensures order { result.now ≡ self.now.order }
         ensures ordered { order_of self.now.contracts.children ≡ Ok self.now.order }
         ensures numbered { All (λ contract. contract < length self.now.contracts.terms) result.now }
+        ensures exist { (parent child : ℕ) → IsChild self.now.contracts.children parent child → child < length self.now.contracts.terms }
         ensures count { length self.now.contracts.children ≡ length self.now.contracts.terms }
     {
         &self.order

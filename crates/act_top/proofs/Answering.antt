@@ -1,7 +1,7 @@
 -- The asks of a script, and what is left to be answered.
 use Rattle.std.proofs.Common.{◌≡◌, ℕ, ◌+◌, ◌≤◌, nat_lt, suc, Bool, true, false, if◌then◌else◌, cond, List, [], ◌∷◌, ◌++◌, length, map, Option, Some, None, refl, sym, ap, ◌∙◌, append-nil, subst, arith}
 use Rattle.std.specs.Prelude.{◌&&◌, ◌==◌, not}
-use Rattle.std.specs.List.{count_by, flat_map, list_all, sum_by}
+use Rattle.std.specs.List.{count_by, flat_map, list_all}
 use Rattle.std.proofs.lemmas.List.{length-map}
 use Rattle.std.proofs.lemmas.List.Folds.{flat_map-map}
 use Rattle.std.proofs.lemmas.List.Sums.{sum_by-cons}
@@ -29,7 +29,6 @@ use Rattle.act_script.specs.Weight.{Tariff, all_asks, ask_weight, script_asks}
 use Rattle.act_script.proofs.Weighing.{in_turn}
 use Rattle.act_model.proofs.AsksInTurn.{asks_from, asks_in_turn}
 use Rattle.act_top.specs.Output.{ends_well, items_of, output_of, tariff_of, too_much_asked}
-use Rattle.act_top.specs.Reached.{rows_calculated, rows_for}
 use Rattle.act_top.specs.Ready.{opening_text}
 use Rattle.act_top.specs.Written.{IsPartAt}
 use Rattle.act_top.specs.declared.writing.Stop.{Stop}
@@ -232,29 +231,6 @@ module _ (portfolio : Accepted) (names : NameLists) (book : List Obs) (lines : L
   pub answering-none : (number version : ℕ) (ended : Bool) (now : Option (List ℕ)) → Answering portfolio names book lines [] number version ended before now →
       (now ≡ written_after before (answers_text names (answers 1 0 lines))) × (ended ≡ list_all ends_well (answers 1 0 lines))
   answering-none number version ended now answering = (left-none _ _ before now answering.text refl, sym (and-true ended) ∙ answering.ends)
-
--- ---- ticks
-
--- the rows for the asks of lines, from a number and a version on
-abbrev pub rows_from : Accepted → NameLists → List Obs → ℕ → ℕ → List Line → ℕ
-rows_from portfolio names book number version lines = sum_by (rows_for portfolio.contracts names book) (asks_from 1 number version (items_of lines))
-
-pub rows-are : (portfolio : Accepted) (names : NameLists) (book : List Obs) (lines : List Line) → book ≡ book_of (items_of lines) → rows_calculated portfolio.contracts names (items_of lines) ≡ rows_from portfolio names book 1 0 lines
-rows-are portfolio names book lines is =
-    ap (sum_by (rows_for portfolio.contracts names (book_of (items_of lines)))) (one-caller lines) ∙ ap (λ (b : List Obs). rows_from portfolio names b 1 0 lines) (sym is)
-
--- a line that appends leaves the rows to those behind it, at the next version
-pub rows-append : (portfolio : Accepted) (names : NameLists) (book : List Obs) (number version : ℕ) (line : Line) (left : List Line) (entry : Obs) → line.step ≡ Append entry
-    → rows_from portfolio names book number version (line ∷ left) ≡ rows_from portfolio names book number (version + 1) left
-rows-append portfolio names book number version line left entry is = ap (sum_by (rows_for portfolio.contracts names book)) (asks-append number version line left entry is)
-
--- an ask has its own
-pub rows-ask : (portfolio : Accepted) (names : NameLists) (book : List Obs) (number version : ℕ) (line : Line) (left : List Line) (asked : Asked) → line.step ≡ Ask asked
-    → rows_from portfolio names book number version (line ∷ left)
-    ≡ rows_for portfolio.contracts names book (record { caller = 1; number = number; version = version; asked = asked }) + rows_from portfolio names book (number + 1) version left
-rows-ask portfolio names book number version line left asked is =
-    ap (sum_by (rows_for portfolio.contracts names book)) (asks-ask number version line left asked is)
-    ∙ sum_by-cons (rows_for portfolio.contracts names book) (record { caller = 1; number = number; version = version; asked = asked }) (asks_from 1 (number + 1) version (items_of left))
 
 -- ---- the whole text
 

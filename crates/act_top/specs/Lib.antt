@@ -1,6 +1,6 @@
-pub mod Ahead
 pub mod Asked
 pub mod Command
+pub mod Driven
 pub mod Halts
 pub mod Jobs
 pub mod Output

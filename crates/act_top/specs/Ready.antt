@@ -1,9 +1,10 @@
 -- What is ready to be written. This profile's own.
-use Rattle.std.specs.Prelude.{◌≡◌, ◌≤◌, ◌-◌, ℕ, not, true, List, ◌++◌, length, map, None}
-use Rattle.std.specs.List.{All, count_by, flat_map, range_with_len}
+use Rattle.std.specs.Prelude.{◌≡◌, ◌≤◌, ℕ, not, true, List, ◌++◌, length, map, None}
+use Rattle.std.specs.Arc.{arc_value}
+use Rattle.std.specs.List.{All, count_by, flat_map}
+use Rattle.std.specs.declared.alloc.Global.{Global}
+use Rattle.std.specs.declared.sync.Arc.{Arc}
 use Rattle.act_model.specs.Names.{NameLists}
-use Rattle.act_model.specs.declared.journal.Asked.{Asked}
-use Rattle.act_model.specs.declared.observed.Obs.{Obs}
 use Rattle.act_model.specs.Run.{Stream}
 use Rattle.act_model.specs.Limits.{most_entries}
 use Rattle.act_model.specs.declared.journal.Line.{Line}
@@ -11,9 +12,8 @@ use Rattle.act_portfolio.specs.Reading.{Accepted}
 use Rattle.act_print.specs.Printed.{printed_block}
 use Rattle.act_print.specs.Text.{answers_head_text, block_text, item_text, journal_head_text}
 use Rattle.act_script.specs.Reading.{Script}
-use Rattle.act_model.specs.Journal.{appends_entry, contracts_of, is_append, is_known}
+use Rattle.act_model.specs.Journal.{appends_entry, is_append, is_known}
 use Rattle.act_profile.specs.Answers.{answers_of}
-use Rattle.act_profile.specs.Run.{Contracts, run_of}
 use Rattle.act_top.specs.Output.{Outcome, answers_status, items_of, output_of, too_much_asked}
 use Rattle.act_top.specs.Reached.{rows_calculated}
 
@@ -35,13 +35,9 @@ pub record Evaluation : Type 0 where
   pub portfolio : Accepted
   pub script : Script
 
--- the runs of the contracts asked for over the entries that are seen, each with its contract
-abbrev pub runs_asked : Contracts → NameLists → List Obs → Asked → List (ℕ × Stream)
-runs_asked contracts names entries asked = map (λ c. (c, run_of contracts entries c)) (contracts_of names asked)
-
--- the runs of the contracts from a number on, as far as to another
-abbrev pub runs_from : (ℕ → Stream) → ℕ → ℕ → List (ℕ × Stream)
-runs_from run k end = map (λ (c : ℕ). (c, run c)) (range_with_len k (end - k))
+-- runs that are shared, each with its contract
+abbrev pub shared_runs : List (ℕ × Arc Stream Global) → List (ℕ × Stream)
+shared_runs runs = map (λ run. (run.0, arc_value run.1)) runs
 
 -- their blocks
 abbrev pub runs_text : NameLists → List (ℕ × Stream) → List ℕ

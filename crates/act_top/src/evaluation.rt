@@ -11,22 +11,24 @@ use act_model::Names;
 use act_portfolio::Portfolio;
 use std::alloc::Global;
 use std::marker::Model;
+use std::sync::Arc;
 
 /// A portfolio, and a script of it whose asks don't weigh too much.
 #[derive(Drop)]
 pub(crate) struct Evaluation {
-    pub(crate) portfolio: Portfolio,
+    pub(crate) portfolio: Arc<Portfolio, Global>,
     pub(crate) script: Script,
 }
 
 impl Model for Evaluation {
+    ghost use Rattle.std.specs.Arc.{arc_value};
     ghost use Rattle.act_top.specs.Ready as ready;
 
     ghost Value = { ready.Evaluation };
 
-    ghost view = { λ e. record { portfolio = e.portfolio; script = e.script } };
+    ghost view = { λ e. record { portfolio = arc_value e.portfolio; script = e.script } };
 
-    ghost invariant = { λ e. ready.IsReady e.portfolio e.script };
+    ghost invariant = { λ e. ready.IsReady (arc_value e.portfolio) e.script };
 }
 
 impl Evaluation {
@@ -50,7 +52,13 @@ impl Evaluation {
         ensures refused { IfErr result (RefusesOnly ⊥ ⊤) }
     {
         match check_weight(alloc, &portfolio, &script) {
-            Ok(()) => Ok(Evaluation { portfolio, script }),
+            Ok(()) => match Arc::new(alloc, portfolio) {
+                Ok(portfolio) => Ok(Evaluation { portfolio, script }),
+                Err(_) => {
+                    drop(script);
+                    Err(Halt::Memory)
+                }
+            },
             Err(halt) => {
                 drop(portfolio);
                 drop(script);

@@ -1,11 +1,10 @@
 //! The program's commands, from the words it is given to the bytes it writes.
 #![tactic(auto)]
 
-mod ahead;
 mod answers;
-mod below;
 mod check;
 mod command;
+mod driving;
 mod evaluation;
 mod halt;
 mod job;

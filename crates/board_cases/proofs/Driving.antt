@@ -15,7 +15,7 @@ use Rattle.act_model.specs.declared.journal.Item.{Item}
 use Rattle.act_model.specs.declared.observed.Obs.{Obs}
 use Rattle.act_portfolio.specs.Reading.{Accepted}
 use Rattle.act_board.specs.Calls.{Claims, Collects, IsOf, after_finish, after_give_up}
-use Rattle.act_board.specs.History.{History, and_then, entries_of, has_left, is_claimed, is_give_up, is_given_up, is_leave_by, item_of, journal_of}
+use Rattle.act_board.specs.History.{History, and_then, entries_of, is_claimed, is_give_up, is_given_up, is_leave_by, item_of, journal_of}
 use Rattle.act_board.specs.Work.{Work, version}
 use Rattle.act_board.specs.declared.mark.Mark.{Mark}
 use Rattle.act_board.specs.declared.mark.Mark.TheVariants as mark

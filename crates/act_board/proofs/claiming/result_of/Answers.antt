@@ -3,7 +3,7 @@ use Rattle.std.specs.Arc.{arc_value}
 use Rattle.std.proofs.lemmas.Option.{get_or_from_slice_get}
 use Rattle.act_model.specs.Run.{Stream}
 use Rattle.act_swap.specs.Children.{AreInDayOrder}
-use Rattle.act_board.specs.Kept.{is_done}
+use Rattle.act_board.specs.Kept.{is_kept}
 use Rattle.act_board.specs.declared.pair.Pair.{Pair}
 use Rattle.act_board.proofs.Told.{done-run, found-done, result-there}
 use Rattle.act_board.proofs.claiming.result_of.Goals as goal
@@ -13,7 +13,7 @@ unreachable-requires c =
     let found = c.in-Some.ensures in
     let same = c.index-pairs-place.is ∙ get_or_from_slice_get c.args.pairs.now c.in-Some.place found.0 c.index-pairs-place.result found.1 in
     let done = found-done c.args.portfolio.now c.args.pairs.now c.args.contract c.args.version c.rank.result c.in-Some.place found.0 c.requires.sorted c.requires.there c.rank.ensures found.1 found.2 found.3 in
-    done-run c.index-pairs-place.result.progress (ap (λ (p : Pair). is_done p.progress) same ∙ done) c.in_default.not-Done
+    done-run c.index-pairs-place.result.progress (ap (λ (p : Pair). is_kept p.progress) same ∙ done) c.in_default.not-Done
 
 pub returns : goal.returns
 returns c =

@@ -1,7 +1,8 @@
 use Rattle.std.proofs.Common.{◌≡◌, ◌-◌, ◌≤◌, false, length, inl, inr, refl, sym, ap, subst, ◌∙◌, arith}
 use Rattle.std.proofs.lemmas.Option.{slice_get_read}
 use Rattle.act_board.specs.History.{History, asks_by, is_given_up, open_asks}
-use Rattle.act_board.specs.Legal.{IsFull}
+use Rattle.act_board.specs.Legal.{IsFull, IsLegal}
+use Rattle.act_board.specs.declared.mark.Mark.TheVariants as mark
 use Rattle.act_board.proofs.Quotas.{few-asked, few-open}
 use Rattle.act_board.proofs.board.Board.ask.Goals as goal
 use Rattle.act_board.proofs.board.Board.ask.Goals.{then-len-ge-MOST_OPEN-via-then-len-ge-MOST_OPEN, then-len-ge-MOST_OPEN-via-else-len-ge-MOST_OPEN+then-asking-ge-MOST_ASKS}
@@ -32,6 +33,7 @@ take_ask-requires-clause-legal c =
     let opened = ap (λ (h : History). length (open_asks h i)) (sym c.self.view_is) ∙ few-open _ _ b.items.items b.book b.callers.items b.pairs.items b.front b.owing b.given_up c.self.invariant i one c.requires.present.from at in
     let asked = ap (λ (h : History). length (asks_by h i)) (sym c.self.view_is) ∙ few-asked _ _ b.items.items b.book b.callers.items b.pairs.items b.front b.owing b.given_up c.self.invariant i one c.requires.present.from at in
     let going = subst (λ (h : History). is_given_up h ≡ false) c.self.view_is (sym c.self.invariant.given_up ∙ c.if-self.false) in
+    subst (λ (h : History). IsLegal h (mark.Ask i c.args.asked)) (sym c.drop_results.ensures)
     (c.requires.present, going, omega (arith, c.if-len-ge-MOST_OPEN.false, c.len.ensures, one.open.ok.0, opened), omega (arith, c.if-asking-ge-MOST_ASKS.false, asked))
 
 pub returns-in-Ok-clause-full : goal.returns-in-Ok-clause-full

@@ -17,7 +17,7 @@ use Rattle.act_board.specs.declared.caller.Caller.{Caller}
 use Rattle.act_board.specs.declared.mark.Mark.{Mark}
 use Rattle.act_board.specs.declared.mark.Mark.TheVariants as mark
 use Rattle.act_board.specs.declared.pair.Pair.{Pair}
-use Rattle.act_board.proofs.Answered.{board-collected, not-ready, oldest-by, ready-so}
+use Rattle.act_board.proofs.Answered.{asked-wanted, board-collected, not-ready, oldest-by, ready-so}
 use Rattle.act_board.proofs.Quotas.{few-open}
 use Rattle.act_board.proofs.Told.{there, told-anyway}
 use Rattle.act_board.proofs.board.Board.collect.Goals as goal
@@ -53,11 +53,16 @@ pub results_of-requires-clause-there : goal.results_of-requires-clause-there
 results_of-requires-clause-there c = λ d from to.
     let b = c.self.inside in
     let raw : History = record { portfolio = arc_value b.portfolio; quotas = b.quotas.items; marks = b.marks.items } in
+    let within = subst (λ (h : History). c.args.caller ≤ length h.quotas) (sym c.self.view_is) c.requires.present.to in
+    let ask = oldest-by raw _ b.items.items b.book b.callers.items b.pairs.items b.front b.owing b.given_up c.self.invariant c.args.caller c.requires.present.from c.deref.result.now c.oldest-ask.result c.deref.ensures.value within c.oldest-ask.ensures in
+    let numbers = ap (λ (p : Accepted). contracts_of p.names c.oldest-ask.result.asked) (sym c.deref-2.ensures) ∙ c.numbers-first.ensures.numbers in
+    let exist = subst (λ (p : Accepted). c.numbers-first.result.1 ≤ length p.contracts.terms) c.deref-2.ensures c.numbers-first.ensures.exist in
+    let wanted = asked-wanted raw c.oldest-ask.result c.args.caller c.numbers-first.result.0 c.numbers-first.result.1 d c.requires.present.from within ask.0 c.numbers-first.ensures.order numbers exist from to in
     let keeps : Keeps c.deref-3.result.now c.deref-4.result.now raw = (subst (ArePairs raw) (sym c.deref-4.ensures.value) c.self.invariant.pairs, sym c.deref-3.ensures) in
     let has = c.if-not-are_ready.ensures.yes refl raw keeps d from to in
     subst (λ (p : Accepted). IsThere p c.deref-6.result.now d c.oldest-ask.result.version) (sym c.deref-5.ensures)
     (subst (λ (xs : List Pair). IsThere (arc_value b.portfolio) xs d c.oldest-ask.result.version) (sym c.deref-6.ensures.value)
-    (there (arc_value b.portfolio) b.pairs.items raw (c.self.invariant.pairs, refl) d c.oldest-ask.result.version has))
+    (there (arc_value b.portfolio) b.pairs.items raw (c.self.invariant.pairs, refl) d c.oldest-ask.result.version d wanted has))
 
 pub invariant_of-self : goal.invariant_of-self
 invariant_of-self c =

@@ -41,7 +41,7 @@ children_results-requires-clause-there c = λ child refers.
     let next = subst (λ (h : History). IsNext h c.args.contract c.args.version) (sym c.self.view_is) c.requires.next in
     subst (λ (p : Accepted). IsThere p c.deref-2.result.now child c.args.version) (sym c.deref.ensures)
     (subst (λ (xs : List Pair). IsThere (arc_value b.portfolio) xs child c.args.version) (sym c.deref-2.ensures.value)
-    (there (arc_value b.portfolio) b.pairs.items _ (c.self.invariant.pairs, refl) child c.args.version
+    (there (arc_value b.portfolio) b.pairs.items _ (c.self.invariant.pairs, refl) child c.args.version c.args.contract next.claimable.wanted
     (next.claimable.children child (subst (λ (p : Accepted). IsChild p.contracts.children c.args.contract child) c.deref.ensures refers))))
 
 pub new-task-requires-clause-contract : goal.new-task-requires-clause-contract

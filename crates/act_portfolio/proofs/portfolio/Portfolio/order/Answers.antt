@@ -1,6 +1,9 @@
-use Rattle.act_portfolio.proofs.Kept.{order_numbered}
+use Rattle.act_portfolio.proofs.Kept.{children_exist, order_numbered}
 use Rattle.act_portfolio.proofs.portfolio.Portfolio.order.Goals as goal
 
 pub returns-clause-numbered : goal.returns-clause-numbered
 returns-clause-numbered c =
     rw (c.deref.ensures.value, ← c.self.view_is) (order_numbered _ _ _ c.self.invariant.accepted.ordered c.self.invariant.accepted.children)
+
+pub returns-clause-exist : goal.returns-clause-exist
+returns-clause-exist c = rw (← c.self.view_is) (children_exist _ _ c.self.invariant.accepted.numbered)

@@ -1,7 +1,7 @@
 use Rattle.std.proofs.Common.{ap}
 use Rattle.act_top.specs.Ready.{Evaluation}
 use Rattle.act_top.proofs.Answering.{text-parts}
-use Rattle.act_top.proofs.Texts.{writes-behind, writes-first, writes-none}
+use Rattle.act_top.proofs.Texts.{writes-behind, writes-first}
 use Rattle.act_top.proofs.evaluation.Evaluation.write.Goals as goal
 
 pub returns-in_err-write_opening-clause-text : goal.returns-in_err-write_opening-clause-text
@@ -15,6 +15,3 @@ returns-clause-text g c =
     let e = c.args.self.now in
     rw (text-parts e.portfolio e.script) (writes-behind c.write_answers.result _ _ _ _ _
     (rw (ap (λ (v : Evaluation). v.script) c.self.view_is) at c.in_ok-write_opening.ensures.text) c.write_answers.ensures.text)
-
-pub returns-in_err-book-clause-text : goal.returns-in_err-book-clause-text
-returns-in_err-book-clause-text g c = writes-none c.from_residual.result _ _ c.from_residual.ensures.1

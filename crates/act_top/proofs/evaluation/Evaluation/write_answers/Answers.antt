@@ -1,90 +1,182 @@
-use Rattle.std.proofs.Common.{None, ◌≡◌, ◌<◌, ◌≤◌, ◌+◌, Bool, List, drop, refl, get_or, length, sym, ap, subst, ◌∙◌, arith, rules}
-use Rattle.std.specs.List.{count_by}
+use Rattle.std.proofs.Common.{None, ◌≡◌, ◌<◌, ◌≤◌, ◌+◌, ◌∷◌, ℕ, List, true, drop, take, refl, get_or, length, sym, ap, subst, ◌∙◌, arith, rules}
+use Rattle.std.specs.List.{All}
+use Rattle.std.specs.Prelude.{◌&&◌}
+use Rattle.act_board.specs.History.{History, and_then, asks_by, entries_of, has_result, version_of}
+use Rattle.act_board.specs.declared.mark.Mark.TheVariants as mark
+use Rattle.act_model.specs.Answer.{Reply}
+use Rattle.act_model.specs.Run.{Stream}
+use Rattle.act_model.specs.declared.asks.Asking.{Asking}
+use Rattle.act_model.specs.declared.observed.Obs.{Obs}
+use Rattle.act_portfolio.specs.Reading.{Accepted}
+use Rattle.act_profile.specs.Answers.{answer_to}
+use Rattle.act_model.specs.Journal.{book_of, is_known}
 use Rattle.act_model.specs.declared.journal.Line.{Line}
-use Rattle.act_top.specs.Output.{too_much_asked}
+use Rattle.act_model.specs.declared.journal.Step.{Step}
+use Rattle.act_model.specs.declared.journal.Step.TheVariants as step
+use Rattle.act_top.specs.Driven.{IsDriven, IsQuiet, rows_made}
+use Rattle.act_top.specs.Output.{items_of, too_much_asked}
 use Rattle.act_top.specs.Ready.{Evaluation}
-use Rattle.act_top.proofs.Answering.{Answering, answering-all, answering-append, answering-ask, answering-none, answering-part, appends, book-length, answers-are, rows-append, rows-are, rows-ask, rows_from, version-fits}
-use Rattle.act_top.proofs.Texts.{drop-next, drop-past, faults-on, writes-part}
+use Rattle.act_top.proofs.Answering.{Answering, answering-all, answering-none, answers-are}
+use Rattle.act_top.proofs.Stepping.{answered-part, answering-appended, answering-asked, append-results, book-begins, driven-append, driven-ask, driven-first, driven-line, has-quota, known-same, made-none, made-same-rows, reply-named, rows-all, stopped-part}
+use Rattle.act_top.proofs.Texts.{drop-next, drop-past, writes-part}
 use Rattle.act_top.proofs.evaluation.Evaluation.write_answers.Goals as goal
-use Rattle.act_top.proofs.evaluation.Evaluation.write_answers.Goals.{in-Append, in-Ask+in_ok-ends-in-Ask}
+use Rattle.act_top.proofs.evaluation.Evaluation.write_answers.Goals.{in-Append+in_ok-append-in-Append, in-Ask+in_ok-answer-in-Ask+in_ok-ends-in-Ask}
 
 pub loop-step-init : goal.loop-step-init
 loop-step-init g c =
     let e = c.args.self.now in
     let light : too_much_asked e.portfolio e.script.lines ≡ None = sym (ap (λ (v : Evaluation). too_much_asked v.portfolio v.script.lines) c.self.view_is) ∙ c.self.invariant.light in
-    record { answering = answering-all e.portfolio e.script.names c.args.book.now e.script.lines _ light c.requires; ticks = refl; faults = refl }
+    rw c.requires (record {
+      driven = driven-first e.portfolio (items_of e.script.lines);
+      answering = answering-all e.portfolio e.script.names (book_of (items_of e.script.lines)) e.script.lines _ light refl;
+      ticks = omega (arith, made-none e.portfolio.contracts (book_of (items_of e.script.lines)));
+      faults = refl;
+    })
 
-pub overflow_add-version : goal.overflow_add-version
-overflow_add-version g c =
+pub append-requires-clause-quota : goal.append-requires-clause-quota
+append-requires-clause-quota g c =
     let e = c.args.self.now in
     let i = c.loop-step.step-index in
     let lines_are : c.deref-step-items.result.now ≡ e.script.lines = search rules in
     let within : i < length e.script.lines = omega (arith, c.loop-step-test.true, ap length lines_are) in
     let here = drop-next e.script.lines i c.step-item.result within (c.step-item.is ∙ ap (λ (ls : List Line). get_or ls i c.step-item.result) lines_are) in
-    let now = subst (λ (left : List Line). Answering e.portfolio e.script.names c.args.book.now e.script.lines left c.loop-step.number c.loop-step.version c.loop-step.ended (g.K.Sink.written c.args.out.now) (g.K.Sink.written c.loop-step.out)) here c.loop-step.invariant.answering in
-    let fits = version-fits e.portfolio e.script.names c.args.book.now e.script.lines _ c.step-item.result _ c.loop-step.number c.loop-step.version c.loop-step.ended _ now c.in-Append.field-0 c.in-Append.is in
-    omega (arith, fits, ap length c.requires, book-length e.script.lines, c.self.invariant.lines.few, ap (λ (v : Evaluation). count_by appends v.script.lines) c.self.view_is)
-
-pub returns-in_err-ends-in-Ask-clause-text : goal.returns-in_err-ends-in-Ask-clause-text
-returns-in_err-ends-in-Ask-clause-text g c =
-    let e = c.args.self.now in
-    let i = c.loop-step.step-index in
-    let lines_are : c.deref-step-items.result.now ≡ e.script.lines = search rules in
-    let within : i < length e.script.lines = omega (arith, c.loop-step-test.true, ap length lines_are) in
-    let here = drop-next e.script.lines i c.step-item.result within (c.step-item.is ∙ ap (λ (ls : List Line). get_or ls i c.step-item.result) lines_are) in
-    let now = subst (λ (left : List Line). Answering e.portfolio e.script.names c.args.book.now e.script.lines left c.loop-step.number c.loop-step.version c.loop-step.ended (g.K.Sink.written c.args.out.now) (g.K.Sink.written c.loop-step.out)) here c.loop-step.invariant.answering in
-    let part = answering-part e.portfolio e.script.names c.args.book.now e.script.lines _ c.step-item.result _ c.loop-step.number c.loop-step.version c.loop-step.ended _ now c.in_err-ends-in-Ask.field-0.0 c.in-Ask.asked _ c.in-Ask.is c.in_err-ends-in-Ask.ensures.text in
-    rw (answers-are e.portfolio e.script.names c.args.book.now e.script.lines c.requires) (writes-part c.from_residual.result _ _ _ _ c.from_residual.ensures.1 part)
+    let driven = driven-line e.portfolio (items_of e.script.lines) _ (drop (i + 1) e.script.lines) c.step-item.result _ c.loop-step.board here c.in-Append.is c.loop-step.invariant.driven in
+    has-quota e.portfolio (items_of e.script.lines) (items_of (drop (i + 1) e.script.lines)) c.loop-step.board c.in-Append.entry driven
 
 pub loop-step-preserved : goal.loop-step-preserved
 loop-step-preserved g c =
     let e = c.args.self.now in
     let i = c.loop-step.step-index in
+    let all = items_of e.script.lines in
+    let left = drop (i + 1) e.script.lines in
     let lines_are : c.deref-step-items.result.now ≡ e.script.lines = search rules in
     let within : i < length e.script.lines = omega (arith, c.loop-step-test.true, ap length lines_are) in
     let here = drop-next e.script.lines i c.step-item.result within (c.step-item.is ∙ ap (λ (ls : List Line). get_or ls i c.step-item.result) lines_are) in
-    let now = subst (λ (left : List Line). Answering e.portfolio e.script.names c.args.book.now e.script.lines left c.loop-step.number c.loop-step.version c.loop-step.ended (g.K.Sink.written c.args.out.now) (g.K.Sink.written c.loop-step.out)) here c.loop-step.invariant.answering in
-    let ticks = subst (λ (left : List Line). c.loop-step.steps + rows_from e.portfolio e.script.names c.args.book.now c.loop-step.number c.loop-step.version left ≡ c.args.steps.now + rows_from e.portfolio e.script.names c.args.book.now 1 0 e.script.lines) here c.loop-step.invariant.ticks in
+    let now = subst (λ (ls : List Line). Answering e.portfolio e.script.names (book_of (items_of e.script.lines)) e.script.lines ls (1 + length (asks_by c.loop-step.board 1)) (version_of c.loop-step.board) c.loop-step.ended (g.K.Sink.written c.args.out.now) (g.K.Sink.written c.loop-step.out)) here c.loop-step.invariant.answering in
     elim c.match-step.branch [
-      | in-Append w ↦ record {
-        answering = rw (w.out-is, w.number-is, w.version-is, w.ended-is)
-            (answering-append e.portfolio e.script.names c.args.book.now e.script.lines _ c.step-item.result _ c.loop-step.number c.loop-step.version c.loop-step.ended _ now w.in-Append.field-0 w.in-Append.is);
-        ticks = rw (w.steps-is, w.number-is, w.version-is) (omega (arith, rows-append e.portfolio e.script.names c.args.book.now c.loop-step.number c.loop-step.version c.step-item.result (drop (i + 1) e.script.lines) w.in-Append.field-0 w.in-Append.is, ticks));
-        faults = rw w.out-is c.loop-step.invariant.faults;
-      }
-      | in-Ask+in_ok-ends-in-Ask w ↦ record {
-        answering = rw (w.out-is, w.number-is, w.version-is, w.ended-is)
-            (answering-ask e.portfolio e.script.names c.args.book.now e.script.lines _ c.step-item.result _ c.loop-step.number c.loop-step.version c.loop-step.ended _ now
-            w.in-Ask.asked w.in_ok-ends-in-Ask.ends _ w.in-Ask.is w.in_ok-ends-in-Ask.ensures.text w.in_ok-ends-in-Ask.ensures.ended);
-        ticks = rw (w.steps-is, w.number-is, w.version-is) (omega (arith, rows-ask e.portfolio e.script.names c.args.book.now c.loop-step.number c.loop-step.version c.step-item.result (drop (i + 1) e.script.lines) w.in-Ask.asked w.in-Ask.is, w.in_ok-ends-in-Ask.ensures.ticked, ticks));
-        faults = rw w.out-is (w.in_ok-ends-in-Ask.ensures.faults ∙ c.loop-step.invariant.faults);
-      }
+      | in-Append+in_ok-append-in-Append w ↦
+          let entry = w.in-Append.entry in
+          let driven = driven-line e.portfolio all _ left c.step-item.result _ c.loop-step.board here w.in-Append.is c.loop-step.invariant.driven in
+          let after = and_then c.loop-step.board (mark.Append 1 entry) in
+          let is : c.match-step.board ≡ after = w.board-is ∙ w.in_ok-append-in-Append.ensures in
+          let written = answering-appended e.portfolio e.script.names e.script.lines c.loop-step.board c.step-item.result left c.loop-step.ended (g.K.Sink.written c.args.out.now) (g.K.Sink.written c.loop-step.out) now entry driven w.in-Append.is in
+          record {
+            driven = subst (IsDriven e.portfolio all (items_of left)) (sym is) (driven-append e.portfolio all (items_of left) c.loop-step.board entry driven);
+            answering = rw (w.out-is, w.ended-is)
+                (subst (λ (h : History). Answering e.portfolio e.script.names (book_of all) e.script.lines left (1 + length (asks_by h 1)) (version_of h) c.loop-step.ended (g.K.Sink.written c.args.out.now) (g.K.Sink.written c.loop-step.out)) (sym is) written);
+            ticks = omega (
+              arith,
+              w.steps-is,
+              c.loop-step.invariant.ticks,
+              made-same-rows e.portfolio.contracts (book_of all) (has_result c.loop-step.board) (has_result after) (append-results e.portfolio c.loop-step.board driven.quiet driven.closed entry),
+              ap (λ (h : History). rows_made e.portfolio.contracts (book_of all) (has_result h)) is,
+            );
+            faults = rw w.out-is c.loop-step.invariant.faults;
+          }
+      | in-Ask+in_ok-answer-in-Ask+in_ok-ends-in-Ask w ↦
+          let asked = w.in-Ask.asked in
+          let told = w.in_ok-answer-in-Ask.ensures in
+          let after = w.answer.new.board in
+          let of : w.deref.result.now ≡ e.portfolio = search rules in
+          let driven = driven-line e.portfolio all _ left c.step-item.result _ c.loop-step.board here w.in-Ask.is c.loop-step.invariant.driven in
+          let quiet = subst (λ (p : Accepted). IsQuiet p after) of told.quiet in
+          let ask : Asking = record { caller = 1; number = 1 + length (asks_by c.loop-step.board 1); version = version_of c.loop-step.board; asked = asked } in
+          let reply-is = subst (λ (p : Accepted). w.in_ok-answer-in-Ask.answer ≡ answer_to p.contracts p.names (entries_of c.loop-step.board) ask) of told.answer in
+          let ticked = subst
+          (λ (p : Accepted). (book : List Obs) → take (version_of c.loop-step.board) book ≡ entries_of c.loop-step.board → w.answer.new.steps + rows_made p.contracts book (has_result c.loop-step.board) ≡ c.loop-step.steps + rows_made p.contracts book (has_result after))
+          of told.ticked in
+          let same : e.script.names.contracts ≡ e.portfolio.names.contracts = ap (λ (v : Evaluation). v.script.names.contracts) (sym c.self.view_is) ∙ (c.self.invariant.lines.contracts ∙ ap (λ (v : Evaluation). v.portfolio.names.contracts) c.self.view_is) in
+          let written = answering-asked e.portfolio e.script.names e.script.lines c.loop-step.board c.step-item.result left c.loop-step.ended (g.K.Sink.written c.args.out.now) (g.K.Sink.written c.loop-step.out) now asked driven same w.in-Ask.is after w.in_ok-answer-in-Ask.answer
+          w.in_ok-ends-in-Ask.ends _ reply-is told.asked w.in_ok-ends-in-Ask.ensures.text w.in_ok-ends-in-Ask.ensures.ended in
+          record {
+            driven = subst (IsDriven e.portfolio all (items_of left)) (sym w.board-is) (driven-ask e.portfolio all (items_of left) c.loop-step.board after asked driven quiet told.closed told.asked);
+            answering = rw (w.out-is, w.ended-is)
+                (subst (λ (h : History). Answering e.portfolio e.script.names (book_of all) e.script.lines left (1 + length (asks_by h 1)) (version_of h) (c.loop-step.ended && w.in_ok-ends-in-Ask.ends) (g.K.Sink.written c.args.out.now) (g.K.Sink.written w.write_answer-written.new.out)) (sym w.board-is) written);
+            ticks = omega (
+              arith,
+              w.steps-is,
+              c.loop-step.invariant.ticks,
+              ticked (book_of all) (book-begins e.portfolio all (items_of left) c.loop-step.board (record { caller = 1; step = step.Ask asked } ∷ items_of left) driven.items),
+              ap (λ (h : History). rows_made e.portfolio.contracts (book_of all) (has_result h)) w.board-is,
+            );
+            faults = rw w.out-is (w.in_ok-ends-in-Ask.ensures.faults ∙ c.loop-step.invariant.faults);
+          }
     ]
+
+pub returns-in_err-append-in-Append-clause-text : goal.returns-in_err-append-in-Append-clause-text
+returns-in_err-append-in-Append-clause-text g c =
+    let e = c.args.self.now in
+    rw (answers-are e.portfolio e.script.names (book_of (items_of e.script.lines)) e.script.lines refl)
+    (writes-part c.from_residual.result _ _ _ _ c.from_residual.ensures.1 (stopped-part e.portfolio e.script.names (book_of (items_of e.script.lines)) e.script.lines _ _ _ _ _ _ c.loop-step.invariant.answering))
+
+pub returns-in_err-answer-in-Ask-clause-text : goal.returns-in_err-answer-in-Ask-clause-text
+returns-in_err-answer-in-Ask-clause-text g c =
+    let e = c.args.self.now in
+    rw (answers-are e.portfolio e.script.names (book_of (items_of e.script.lines)) e.script.lines refl)
+    (writes-part c.from_residual-in_err-answer-in-Ask.result _ _ _ _ c.from_residual-in_err-answer-in-Ask.ensures.1 (stopped-part e.portfolio e.script.names (book_of (items_of e.script.lines)) e.script.lines _ _ _ _ _ _ c.loop-step.invariant.answering))
+
+pub write_answer-written-requires : goal.write_answer-written-requires
+write_answer-written-requires g c =
+    let e = c.args.self.now in
+    let i = c.loop-step.step-index in
+    let all = items_of e.script.lines in
+    let left = drop (i + 1) e.script.lines in
+    let lines_are : c.deref-step-items.result.now ≡ e.script.lines = search rules in
+    let within : i < length e.script.lines = omega (arith, c.loop-step-test.true, ap length lines_are) in
+    let here = drop-next e.script.lines i c.step-item.result within (c.step-item.is ∙ ap (λ (ls : List Line). get_or ls i c.step-item.result) lines_are) in
+    let asked = c.in-Ask.asked in
+    let of : c.deref.result.now ≡ e.portfolio = search rules in
+    let ask : Asking = record { caller = 1; number = 1 + length (asks_by c.loop-step.board 1); version = version_of c.loop-step.board; asked = asked } in
+    let reply-is = subst (λ (p : Accepted). c.in_ok-answer-in-Ask.answer ≡ answer_to p.contracts p.names (entries_of c.loop-step.board) ask) of c.in_ok-answer-in-Ask.ensures.answer in
+    let same : e.script.names.contracts ≡ e.portfolio.names.contracts = ap (λ (v : Evaluation). v.script.names.contracts) (sym c.self.view_is) ∙ (c.self.invariant.lines.contracts ∙ ap (λ (v : Evaluation). v.portfolio.names.contracts) c.self.view_is) in
+    let item_is = c.step-item.is ∙ ap (λ (ls : List Line). get_or ls i c.step-item.result) lines_are in
+    let all-known = subst (λ (v : Evaluation). All (λ (line : Line). is_known v.script.names line.step ≡ true) v.script.lines) c.self.view_is c.self.invariant.lines.known in
+    let this : is_known e.script.names (step.Ask asked) ≡ true =
+    subst (λ (t : Step). is_known e.script.names t ≡ true) c.in-Ask.is (subst (λ (line : Line). is_known e.script.names line.step ≡ true) (sym item_is) (all-known i c.step-item.result within)) in
+    let known : is_known e.portfolio.names (step.Ask asked) ≡ true = sym (known-same e.script.names e.portfolio.names asked same) ∙ this in
+    subst (λ (r : Reply). All (λ (run : ℕ × Stream). run.0 < length e.portfolio.names.contracts) r.runs) (sym reply-is) (reply-named e.portfolio.contracts e.portfolio.names (entries_of c.loop-step.board) ask known)
+
+pub returns-in_err-ends-in-Ask-clause-text : goal.returns-in_err-ends-in-Ask-clause-text
+returns-in_err-ends-in-Ask-clause-text g c =
+    let e = c.args.self.now in
+    let i = c.loop-step.step-index in
+    let all = items_of e.script.lines in
+    let left = drop (i + 1) e.script.lines in
+    let lines_are : c.deref-step-items.result.now ≡ e.script.lines = search rules in
+    let within : i < length e.script.lines = omega (arith, c.loop-step-test.true, ap length lines_are) in
+    let here = drop-next e.script.lines i c.step-item.result within (c.step-item.is ∙ ap (λ (ls : List Line). get_or ls i c.step-item.result) lines_are) in
+    let now = subst (λ (ls : List Line). Answering e.portfolio e.script.names (book_of all) e.script.lines ls (1 + length (asks_by c.loop-step.board 1)) (version_of c.loop-step.board) c.loop-step.ended (g.K.Sink.written c.args.out.now) (g.K.Sink.written c.loop-step.out)) here c.loop-step.invariant.answering in
+    let asked = c.in-Ask.asked in
+    let of : c.deref.result.now ≡ e.portfolio = search rules in
+    let ask : Asking = record { caller = 1; number = 1 + length (asks_by c.loop-step.board 1); version = version_of c.loop-step.board; asked = asked } in
+    let reply-is = subst (λ (p : Accepted). c.in_ok-answer-in-Ask.answer ≡ answer_to p.contracts p.names (entries_of c.loop-step.board) ask) of c.in_ok-answer-in-Ask.ensures.answer in
+    let same : e.script.names.contracts ≡ e.portfolio.names.contracts = ap (λ (v : Evaluation). v.script.names.contracts) (sym c.self.view_is) ∙ (c.self.invariant.lines.contracts ∙ ap (λ (v : Evaluation). v.portfolio.names.contracts) c.self.view_is) in
+    let driven = driven-line e.portfolio all _ left c.step-item.result _ c.loop-step.board here c.in-Ask.is c.loop-step.invariant.driven in
+    let part = answered-part e.portfolio e.script.names e.script.lines c.loop-step.board c.step-item.result left c.loop-step.ended (g.K.Sink.written c.args.out.now) (g.K.Sink.written c.loop-step.out) now asked driven same c.in-Ask.is
+    c.in_err-ends-in-Ask.field-0.0 c.in_ok-answer-in-Ask.answer _ reply-is c.in_err-ends-in-Ask.ensures.text in
+    rw (answers-are e.portfolio e.script.names (book_of all) e.script.lines refl) (writes-part c.from_residual-in_err-ends-in-Ask.result _ _ _ _ c.from_residual-in_err-ends-in-Ask.ensures.1 part)
 
 pub returns-clause-text : goal.returns-clause-text
 returns-clause-text g c =
     let e = c.args.self.now in
     let lines_are : c.deref-step-items.result.now ≡ e.script.lines = search rules in
     let past : length e.script.lines ≤ c.loop-step.step-index = omega (arith, c.loop-step-test.false, ap length lines_are) in
-    let now = subst (λ (left : List Line). Answering e.portfolio e.script.names c.args.book.now e.script.lines left c.loop-step.number c.loop-step.version c.loop-step.ended (g.K.Sink.written c.args.out.now) (g.K.Sink.written c.loop-step.out)) (drop-past e.script.lines c.loop-step.step-index past) c.loop-step.invariant.answering in
-    rw (answers-are e.portfolio e.script.names c.args.book.now e.script.lines c.requires) (answering-none e.portfolio e.script.names c.args.book.now e.script.lines _ _ _ _ _ now).0
+    let now = subst (λ (ls : List Line). Answering e.portfolio e.script.names (book_of (items_of e.script.lines)) e.script.lines ls (1 + length (asks_by c.loop-step.board 1)) (version_of c.loop-step.board) c.loop-step.ended (g.K.Sink.written c.args.out.now) (g.K.Sink.written c.loop-step.out)) (drop-past e.script.lines c.loop-step.step-index past) c.loop-step.invariant.answering in
+    rw (answers-are e.portfolio e.script.names (book_of (items_of e.script.lines)) e.script.lines refl) (answering-none e.portfolio e.script.names (book_of (items_of e.script.lines)) e.script.lines _ _ _ _ _ now).0
 
 pub returns-clause-ended : goal.returns-clause-ended
 returns-clause-ended g c =
     let e = c.args.self.now in
     let lines_are : c.deref-step-items.result.now ≡ e.script.lines = search rules in
     let past : length e.script.lines ≤ c.loop-step.step-index = omega (arith, c.loop-step-test.false, ap length lines_are) in
-    let now = subst (λ (left : List Line). Answering e.portfolio e.script.names c.args.book.now e.script.lines left c.loop-step.number c.loop-step.version c.loop-step.ended (g.K.Sink.written c.args.out.now) (g.K.Sink.written c.loop-step.out)) (drop-past e.script.lines c.loop-step.step-index past) c.loop-step.invariant.answering in
-    rw (answers-are e.portfolio e.script.names c.args.book.now e.script.lines c.requires) (answering-none e.portfolio e.script.names c.args.book.now e.script.lines _ _ _ _ _ now).1
+    let now = subst (λ (ls : List Line). Answering e.portfolio e.script.names (book_of (items_of e.script.lines)) e.script.lines ls (1 + length (asks_by c.loop-step.board 1)) (version_of c.loop-step.board) c.loop-step.ended (g.K.Sink.written c.args.out.now) (g.K.Sink.written c.loop-step.out)) (drop-past e.script.lines c.loop-step.step-index past) c.loop-step.invariant.answering in
+    rw (answers-are e.portfolio e.script.names (book_of (items_of e.script.lines)) e.script.lines refl) (answering-none e.portfolio e.script.names (book_of (items_of e.script.lines)) e.script.lines _ _ _ _ _ now).1
 
 pub returns-clause-ticked : goal.returns-clause-ticked
 returns-clause-ticked g c =
     let e = c.args.self.now in
     let lines_are : c.deref-step-items.result.now ≡ e.script.lines = search rules in
     let past : length e.script.lines ≤ c.loop-step.step-index = omega (arith, c.loop-step-test.false, ap length lines_are) in
-    let ticks = subst (λ (left : List Line). c.loop-step.steps + rows_from e.portfolio e.script.names c.args.book.now c.loop-step.number c.loop-step.version left ≡ c.args.steps.now + rows_from e.portfolio e.script.names c.args.book.now 1 0 e.script.lines) (drop-past e.script.lines c.loop-step.step-index past) c.loop-step.invariant.ticks in
-    rw (rows-are e.portfolio e.script.names c.args.book.now e.script.lines c.requires) (omega (arith, ticks))
-
-pub returns-in_err-ends-in-Ask-clause-faults : goal.returns-in_err-ends-in-Ask-clause-faults
-returns-in_err-ends-in-Ask-clause-faults g c =
-    faults-on Bool c.from_residual.result c.in_err-ends-in-Ask.field-0.0 _ _ c.from_residual.ensures.1 (rw (← c.loop-step.invariant.faults) c.in_err-ends-in-Ask.ensures.faults)
+    let driven = subst (λ (ls : List Line). IsDriven e.portfolio (items_of e.script.lines) (items_of ls) c.loop-step.board) (drop-past e.script.lines c.loop-step.step-index past) c.loop-step.invariant.driven in
+    let same : e.script.names.contracts ≡ e.portfolio.names.contracts = ap (λ (v : Evaluation). v.script.names.contracts) (sym c.self.view_is) ∙ (c.self.invariant.lines.contracts ∙ ap (λ (v : Evaluation). v.portfolio.names.contracts) c.self.view_is) in
+    omega (arith, c.loop-step.invariant.ticks, rows-all e.portfolio e.script.names e.script.lines c.loop-step.board same driven)

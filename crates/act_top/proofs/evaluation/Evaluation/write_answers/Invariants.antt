@@ -1,11 +1,16 @@
-use Rattle.std.proofs.Common.{◌≡◌, ◌+◌, drop}
-use Rattle.act_top.proofs.Answering.{Answering, rows_from}
+use Rattle.std.proofs.Common.{◌≡◌, ◌+◌, drop, length}
+use Rattle.act_board.specs.History.{asks_by, has_result, version_of}
+use Rattle.act_model.specs.Journal.{book_of}
+use Rattle.act_top.specs.Driven.{IsDriven, rows_made}
+use Rattle.act_top.specs.Output.{items_of}
+use Rattle.act_top.proofs.Answering.{Answering}
 use Rattle.act_top.proofs.evaluation.Evaluation.write_answers.Given as goal
 
--- the answers to the asks from this step on are still to be written
+-- the steps from this one on are still to be made, and the answers to their asks are still to be written
 abbrev pub invariant-loop-step : goal.invariant-loop-step
 invariant-loop-step g l = record {
-  answering : Answering l.self.portfolio l.self.script.names l.book l.self.script.lines (drop l.step-index l.self.script.lines) l.number l.version l.ended (g.K.Sink.written l.fn.out) (g.K.Sink.written l.out);
-  ticks : l.steps + rows_from l.self.portfolio l.self.script.names l.book l.number l.version (drop l.step-index l.self.script.lines) ≡ l.fn.steps + rows_from l.self.portfolio l.self.script.names l.book 1 0 l.self.script.lines;
+  driven : IsDriven l.self.portfolio (items_of l.self.script.lines) (items_of (drop l.step-index l.self.script.lines)) l.board;
+  answering : Answering l.self.portfolio l.self.script.names (book_of (items_of l.self.script.lines)) l.self.script.lines (drop l.step-index l.self.script.lines) (1 + length (asks_by l.board 1)) (version_of l.board) l.ended (g.K.Sink.written l.fn.out) (g.K.Sink.written l.out);
+  ticks : l.steps ≡ l.fn.steps + rows_made l.self.portfolio.contracts (book_of (items_of l.self.script.lines)) (has_result l.board);
   faults : g.K.Sink.faults l.out ≡ g.K.Sink.faults l.fn.out;
 }

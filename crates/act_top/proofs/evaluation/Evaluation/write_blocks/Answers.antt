@@ -1,54 +1,63 @@
-use Rattle.std.proofs.Common.{◌≡◌, ◌+◌, ◌-◌, ◌<◌, ◌≤◌, true, false, is_some, List, ℕ, Bool, map, length, ap, sym, subst, ◌∙◌, arith, sum_by, slice_index_or}
-use Rattle.std.specs.Prelude.{IfOk}
-use Rattle.std.specs.List.{range_with_len}
-use Rattle.std.proofs.lemmas.Result.{IfOk-weaker}
-use Rattle.act_profile.specs.Run.{run_of}
-use Rattle.act_refs.specs.Path.{IsChild}
-use Rattle.act_top.specs.Ahead.{AreRuns, Held, rows_left, run_at}
-use Rattle.act_top.specs.Output.{all_end}
-use Rattle.act_top.specs.Reached.{AreBelow, rows_reached}
-use Rattle.act_top.specs.Ready.{Evaluation}
-use Rattle.act_top.proofs.Evaluated.{children-there, rows-together}
-use Rattle.act_top.proofs.Holding.{rows_marked}
+use Rattle.std.proofs.Common.{◌≡◌, ◌+◌, Bool, ℕ, List, drop, get_or, refl, sym, ap, ◌∙◌, arith}
+use Rattle.std.specs.Prelude.{◌&&◌}
+use Rattle.std.specs.Arc.{arc_value}
+use Rattle.std.specs.declared.alloc.Global.{Global}
+use Rattle.std.specs.declared.sync.Arc.{Arc}
+use Rattle.std.proofs.Math.Bool.{and_assoc, and-true}
+use Rattle.std.proofs.lemmas.List.{get_or-map, length-map}
+use Rattle.act_model.specs.Run.{Stream}
+use Rattle.act_print.specs.Printed.{printed_block}
+use Rattle.act_print.specs.Text.{block_text}
+use Rattle.act_top.specs.Output.{all_end, is_end}
+use Rattle.act_top.specs.Ready.{runs_text, shared_runs}
+use Rattle.act_top.proofs.Texts.{drop-next, drop-past, left-all, left-next, left-none, left-part, writes-part}
 use Rattle.act_top.proofs.evaluation.Evaluation.write_blocks.Goals as goal
 
-pub write_each-written-requires-clause-count : goal.write_each-written-requires-clause-count
-write_each-written-requires-clause-count g c =
-    ap length c.deref-2.ensures.value ∙ (c.in_ok-ahead.ensures.count ∙ ap (λ (e : Evaluation). length e.portfolio.contracts.terms) c.self.view_is)
+pub loop-run-init : goal.loop-run-init
+loop-run-init g c = record { text = left-all _ _; ends = refl; faults = refl }
 
-pub write_each-written-requires-clause-runs : goal.write_each-written-requires-clause-runs
-write_each-written-requires-clause-runs g c =
-    subst (λ (held : Held). AreRuns c.args.self.now.portfolio.contracts c.args.seen.now held) (sym c.deref-2.ensures.value)
-    (subst (λ (e : Evaluation). AreRuns e.portfolio.contracts c.args.seen.now c.in_ok-ahead.ahead.items) c.self.view_is c.in_ok-ahead.ensures.runs)
+pub write_run_of-requires : goal.write_run_of-requires
+write_run_of-requires g c =
+    let runs = c.args.runs.now in
+    let i = c.loop-run.run-index in
+    let item = c.run-item.result in
+    let within = c.loop-run-test.true in
+    let named = c.requires i (item.0, arc_value item.1) (omega (arith, within, length-map {B = ℕ × Stream} runs (λ (run : ℕ × Arc Stream Global). (run.0, arc_value run.1)))) in
+    let here : get_or (shared_runs runs) i (item.0, arc_value item.1) ≡ (item.0, arc_value item.1) = get_or-map (λ (run : ℕ × Arc Stream Global). (run.0, arc_value run.1)) runs i item (item.0, arc_value item.1) within ∙ ap (λ (run : ℕ × Arc Stream Global). (run.0, arc_value run.1)) (sym c.run-item.is) in
+    omega (arith, named, ap (λ (run : ℕ × Stream). run.0) here)
 
-pub write_each-written-requires-clause-children : goal.write_each-written-requires-clause-children
-write_each-written-requires-clause-children g c =
-    let contracts = c.args.self.now.portfolio.contracts in
-    let first = c.numbers-first.result.0 in
-    let end = c.numbers-first.result.1 in
-    let are : AreBelow contracts (range_with_len first (end - first)) c.in_ok-below.below.items = subst (λ (e : Evaluation). AreBelow e.portfolio.contracts (range_with_len first (end - first)) c.in_ok-below.below.items) c.self.view_is c.in_ok-below.ensures in
-    let marked : (k : ℕ) → is_some (run_at c.in_ok-ahead.ahead.items k) ≡ slice_index_or c.in_ok-below.below.items k false = λ k. c.in_ok-ahead.ensures.marked k ∙ ap (λ (below : List Bool). slice_index_or below k false) c.deref.ensures.value in
-    subst (λ (held : Held). (k child : ℕ) → first ≤ k → k < end → IsChild contracts.children k child → is_some (run_at held child) ≡ true) (sym c.deref-2.ensures.value)
-    (children-there contracts first end c.in_ok-below.below.items c.in_ok-ahead.ahead.items are marked)
+pub loop-run-preserved : goal.loop-run-preserved
+loop-run-preserved g c =
+    let names = c.args.self.now.script.names in
+    let runs = c.args.runs.now in
+    let i = c.loop-run.run-index in
+    let item = c.run-item.result in
+    let here = drop-next runs i item c.loop-run-test.true c.run-item.is in
+    let rest = shared_runs (drop (i + 1) runs) in
+    let ends_so : c.in_ok-ends.ends ≡ is_end (arc_value item.1).close = c.in_ok-ends.ensures.ended ∙ ap (λ (run : Stream). is_end run.close) c.deref.ensures in
+    record {
+      text = left-next _ _ (block_text names (printed_block (item.0, arc_value item.1))) _ _ _ _ c.loop-run.invariant.text (ap (λ (rs : List (ℕ × Arc Stream Global)). runs_text names (shared_runs rs)) here) (rw c.deref.ensures at c.in_ok-ends.ensures.text);
+      ends = and_assoc c.loop-run.ended c.in_ok-ends.ends (all_end rest)
+          ∙ (ap (λ (b : Bool). c.loop-run.ended && (b && all_end rest)) ends_so
+          ∙ (ap (λ (rs : List (ℕ × Arc Stream Global)). c.loop-run.ended && all_end (shared_runs rs)) (sym here) ∙ c.loop-run.invariant.ends));
+      faults = c.in_ok-ends.ensures.faults ∙ c.loop-run.invariant.faults;
+    }
+
+pub returns-in_err-ends-clause-text : goal.returns-in_err-ends-clause-text
+returns-in_err-ends-clause-text g c =
+    let names = c.args.self.now.script.names in
+    let runs = c.args.runs.now in
+    let item = c.run-item.result in
+    let here = drop-next runs c.loop-run.run-index item c.loop-run-test.true c.run-item.is in
+    writes-part c.from_residual.result _ _ _ _ c.from_residual.ensures.1
+    (left-part c.in_err-ends.field-0.0 _ _ (block_text names (printed_block (item.0, arc_value item.1))) _ _ _ _ c.loop-run.invariant.text (ap (λ (rs : List (ℕ × Arc Stream Global)). runs_text names (shared_runs rs)) here) (rw c.deref.ensures at c.in_err-ends.ensures.text))
+
+pub returns-clause-text : goal.returns-clause-text
+returns-clause-text g c =
+    let none = drop-past c.args.runs.now c.loop-run.run-index c.loop-run-test.false in
+    left-none _ _ _ _ c.loop-run.invariant.text (ap (λ (rs : List (ℕ × Arc Stream Global)). runs_text c.args.self.now.script.names (shared_runs rs)) none)
 
 pub returns-clause-ended : goal.returns-clause-ended
 returns-clause-ended g c =
-    subst (λ (ks : List ℕ). IfOk c.write_each-written.result (λ ended. ended ≡ all_end (map (λ (k : ℕ). (k, run_of c.args.self.now.portfolio.contracts c.args.seen.now k)) ks)))
-    (sym c.numbers-first.ensures.numbers) c.write_each-written.ensures.ended
-
-pub returns-clause-ticked : goal.returns-clause-ticked
-returns-clause-ticked g c =
-    let contracts = c.args.self.now.portfolio.contracts in
-    let seen = c.args.seen.now in
-    let first = c.numbers-first.result.0 in
-    let end = c.numbers-first.result.1 in
-    let are : AreBelow contracts (range_with_len first (end - first)) c.in_ok-below.below.items = subst (λ (e : Evaluation). AreBelow e.portfolio.contracts (range_with_len first (end - first)) c.in_ok-below.below.items) c.self.view_is c.in_ok-below.ensures in
-    let marked : (k : ℕ) → is_some (run_at c.in_ok-ahead.ahead.items k) ≡ slice_index_or c.in_ok-below.below.items k false = λ k. c.in_ok-ahead.ensures.marked k ∙ ap (λ (below : List Bool). slice_index_or below k false) c.deref.ensures.value in
-    let before : c.runs_ahead.new.steps ≡ c.args.steps.now + sum_by (rows_marked contracts seen c.in_ok-below.below.items) (range_with_len 0 (length contracts.terms)) =
-    c.in_ok-ahead.ensures.ticked
-    ∙ (ap (λ (e : Evaluation). c.args.steps.now + sum_by (rows_marked e.portfolio.contracts seen c.deref.result.now) (range_with_len 0 (length e.portfolio.contracts.terms))) c.self.view_is
-    ∙ ap (λ (below : List Bool). c.args.steps.now + sum_by (rows_marked contracts seen below) (range_with_len 0 (length contracts.terms))) c.deref.ensures.value) in
-    let left = ap (λ (held : Held). sum_by (rows_left contracts seen held) (range_with_len first (end - first))) c.deref-2.ensures.value in
-    let all = rows-together contracts first end c.in_ok-below.below.items c.in_ok-ahead.ahead.items are marked seen c.numbers-first.ensures.order c.numbers-first.ensures.exist in
-    let asked = ap (rows_reached contracts seen) c.numbers-first.ensures.numbers in
-    IfOk-weaker c.write_each-written.result _ _ (λ ended is. omega (arith, is, left, before, all, asked)) c.write_each-written.ensures.ticked
+    let none = drop-past c.args.runs.now c.loop-run.run-index c.loop-run-test.false in
+    sym (and-true c.loop-run.ended) ∙ (ap (λ (rs : List (ℕ × Arc Stream Global)). c.loop-run.ended && all_end (shared_runs rs)) (sym none) ∙ c.loop-run.invariant.ends)

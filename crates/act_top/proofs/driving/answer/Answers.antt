@@ -1,0 +1,90 @@
+use Rattle.std.proofs.Common.{◌≡◌, ◌+◌, List, true, take, sym, ap, subst, ◌∙◌, arith}
+use Rattle.std.proofs.lemmas.Result.{IfOk-weaker}
+use Rattle.act_model.specs.Journal.{is_known}
+use Rattle.act_model.specs.declared.journal.Step.TheVariants as step
+use Rattle.act_model.specs.declared.observed.Obs.{Obs}
+use Rattle.act_portfolio.specs.Reading.{Accepted}
+use Rattle.act_board.specs.History.{History, entries_of, has_result, open_asks, version_of}
+use Rattle.act_top.specs.Driven.{Adds, IsQuiet, OnlyWorks, rows_made}
+use Rattle.act_top.proofs.Stepping.{adds-ask, all-there, answer-is, collect-open, oldest-is, opened-last, quiet-asked, quiet-collected, ready-is, the-ask, ticks-ask}
+use Rattle.act_top.proofs.driving.answer.Goals as goal
+
+pub evaluate_all-requires : goal.evaluate_all-requires
+evaluate_all-requires g c = record {
+  quiet = subst (IsQuiet c.args.portfolio.now) (sym c.in_ok-ask.ensures) (quiet-asked c.args.portfolio.now c.args.board.now c.requires.quiet c.requires.closed c.args.asked);
+}
+
+pub collect-requires-clause-ready : goal.collect-requires-clause-ready
+collect-requires-clause-ready g c =
+    let p = c.args.portfolio.now in
+    let first = c.args.board.now in
+    let last = c.evaluate_all.new.board in
+    let told = c.in_ok-evaluate_all.ensures in
+    let works = subst (λ (h : History). OnlyWorks h last) c.in_ok-ask.ensures told.works in
+    let ask = the-ask p first c.requires.quiet c.requires.closed c.args.asked in
+    let opened = opened-last p first last c.requires.quiet c.requires.closed c.args.asked works told.quiet in
+    let known = subst (λ (q : Accepted). is_known q.names (step.Ask c.args.asked) ≡ true) (sym told.quiet.portfolio) c.requires.known in (
+      ask,
+      oldest-is p last told.quiet ask opened c.order.ensures.ordered c.order.ensures.count c.order.ensures.exist told.none,
+      ready-is p last told.quiet ask opened c.order.ensures.ordered c.order.ensures.count c.order.ensures.exist told.none known (omega (arith, c.named.ensures.named, c.named.ensures.within)),
+    )
+
+pub returns-clause-quiet : goal.returns-clause-quiet
+returns-clause-quiet g c =
+    let p = c.args.portfolio.now in
+    let first = c.args.board.now in
+    let last = c.evaluate_all.new.board in
+    let told = c.in_ok-evaluate_all.ensures in
+    let works = subst (λ (h : History). OnlyWorks h last) c.in_ok-ask.ensures told.works in
+    let ask = the-ask p first c.requires.quiet c.requires.closed c.args.asked in
+    let opened = opened-last p first last c.requires.quiet c.requires.closed c.args.asked works told.quiet in
+    let all = all-there p last told.quiet ask opened c.order.ensures.ordered c.order.ensures.count c.order.ensures.exist told.none in
+    IfOk-weaker c.collect.result _ _ (λ x is. subst (IsQuiet p) (sym is) (quiet-collected p last told.quiet ask opened all)) c.collect.ensures.collected
+
+pub returns-clause-closed : goal.returns-clause-closed
+returns-clause-closed g c =
+    let p = c.args.portfolio.now in
+    let first = c.args.board.now in
+    let last = c.evaluate_all.new.board in
+    let told = c.in_ok-evaluate_all.ensures in
+    let works = subst (λ (h : History). OnlyWorks h last) c.in_ok-ask.ensures told.works in
+    let ask = the-ask p first c.requires.quiet c.requires.closed c.args.asked in
+    let opened = opened-last p first last c.requires.quiet c.requires.closed c.args.asked works told.quiet in
+    let all = all-there p last told.quiet ask opened c.order.ensures.ordered c.order.ensures.count c.order.ensures.exist told.none in
+    IfOk-weaker c.collect.result _ _ (λ x is. ap (λ (h : History). open_asks h 1) is ∙ collect-open p last told.quiet ask opened all) c.collect.ensures.collected
+
+pub returns-clause-asked : goal.returns-clause-asked
+returns-clause-asked g c =
+    let p = c.args.portfolio.now in
+    let first = c.args.board.now in
+    let last = c.evaluate_all.new.board in
+    let told = c.in_ok-evaluate_all.ensures in
+    let works = subst (λ (h : History). OnlyWorks h last) c.in_ok-ask.ensures told.works in
+    IfOk-weaker c.collect.result _ _
+    (λ x is. subst (Adds (record { caller = 1; step = step.Ask c.args.asked }) first) (sym is) (adds-ask p first last c.requires.quiet c.requires.closed c.args.asked works told.quiet)) c.collect.ensures.collected
+
+pub returns-clause-answer : goal.returns-clause-answer
+returns-clause-answer g c =
+    let p = c.args.portfolio.now in
+    let first = c.args.board.now in
+    let last = c.evaluate_all.new.board in
+    let told = c.in_ok-evaluate_all.ensures in
+    let works = subst (λ (h : History). OnlyWorks h last) c.in_ok-ask.ensures told.works in
+    let ask = the-ask p first c.requires.quiet c.requires.closed c.args.asked in
+    let opened = opened-last p first last c.requires.quiet c.requires.closed c.args.asked works told.quiet in
+    let oldest = oldest-is p last told.quiet ask opened c.order.ensures.ordered c.order.ensures.count c.order.ensures.exist told.none in
+    IfOk-weaker c.collect.result _ _ (λ answer is. is ask oldest ∙ answer-is p first last c.requires.quiet c.requires.closed c.args.asked works told.quiet) c.collect.ensures.answer
+
+pub returns-clause-ticked : goal.returns-clause-ticked
+returns-clause-ticked g c =
+    let p = c.args.portfolio.now in
+    let first = c.args.board.now in
+    let last = c.evaluate_all.new.board in
+    let told = c.in_ok-evaluate_all.ensures in
+    let works = subst (λ (h : History). OnlyWorks h last) c.in_ok-ask.ensures told.works in
+    let ticked = subst (λ (h : History). (book : List Obs) → take (version_of h) book ≡ entries_of h → c.evaluate_all.new.steps + rows_made p.contracts book (has_result h) ≡ c.args.steps.now + rows_made p.contracts book (has_result last))
+    c.in_ok-ask.ensures told.ticked in
+    IfOk-weaker c.collect.result _ _
+    (λ x is book begins.
+    ticks-ask p first last c.requires.quiet c.requires.closed c.args.asked works told.quiet c.args.steps.now c.evaluate_all.new.steps ticked book begins
+    ∙ ap (λ (h : History). c.args.steps.now + rows_made p.contracts book (has_result h)) (sym is)) c.collect.ensures.collected
