@@ -82,11 +82,11 @@ asked-wanted history ask i first end d from to oldest order numbers exist above 
 
 module _ (history : History) (capacity : ℕ) (steps : List Item) (book : List Obs) (all : List Caller) (pairs : List Pair) (front owes : ℕ) (gave_up : Bool) (b : IsBoard history capacity steps book all pairs front owes gave_up) (i : ℕ) (from : 1 ≤ i) where
   -- the oldest open ask of a caller
-  pub oldest-told : (caller : Caller) (ask : Asking) → slice_get all (i - 1) ≡ Some caller → slice_get caller.open.items 0 ≡ Some ask → IsOldest history i ask × IsAsk history ask
+  pub oldest-told : (caller : Caller) (ask : Asking) → slice_get all (i - 1) ≡ Some caller → slice_get caller.open_asks.items 0 ≡ Some ask → IsOldest history i ask × IsAsk history ask
   oldest-told caller ask at first =
       let is = (caller-told history capacity steps book all pairs front owes gave_up b i caller from at).2 in (
         subst (λ (asks : List Asking). slice_get asks 0 ≡ Some ask) is.still_open first,
-        All-contains (IsAsk history) caller.open.items ask is.asks (0, slice_get_within caller.open.items 0 ask first, first-read caller.open.items ask first),
+        All-contains (IsAsk history) caller.open_asks.items ask is.asks (0, slice_get_within caller.open_asks.items 0 ask first, first-read caller.open_asks.items ask first),
       )
     where
       first-read : (asks : List Asking) (a : Asking) → slice_get asks 0 ≡ Some a → get_or asks 0 a ≡ a
@@ -94,7 +94,7 @@ module _ (history : History) (capacity : ℕ) (steps : List Item) (book : List O
       first-read (x ∷ xs) a is = same_Some x a is
 
   -- the same, as it is read
-  pub oldest-by : (read : List Caller) (ask : Asking) → read ≡ all → i ≤ length history.quotas → ((one : Caller) → slice_get read (i - 1) ≡ Some one → slice_get one.open.items 0 ≡ Some ask) → IsOldest history i ask × IsAsk history ask
+  pub oldest-by : (read : List Caller) (ask : Asking) → read ≡ all → i ≤ length history.quotas → ((one : Caller) → slice_get read (i - 1) ≡ Some one → slice_get one.open_asks.items 0 ≡ Some ask) → IsOldest history i ask × IsAsk history ask
   oldest-by read ask same to first =
       let one = some-at all (i - 1) (omega (arith, from, to, b.callers.count)) in
       oldest-told one.0 ask one.1 (first one.0 (ap (λ (xs : List Caller). slice_get xs (i - 1)) same ∙ one.1))
@@ -107,8 +107,8 @@ module _ (history : History) (capacity : ℕ) (steps : List Item) (book : List O
     told : (quota : ℕ) × (slice_get history.quotas (i - 1) ≡ Some quota) × IsCaller history i quota closes.before
     told = caller-told history capacity steps book all pairs front owes gave_up b i closes.before from closes.was
 
-    some : 0 < length closes.before.open.items
-    some = slice_get_within closes.before.open.items 0 ask (subst (λ (asks : List Asking). slice_get asks 0 ≡ Some ask) (sym told.2.still_open) oldest)
+    some : 0 < length closes.before.open_asks.items
+    some = slice_get_within closes.before.open_asks.items 0 ask (subst (λ (asks : List Asking). slice_get asks 0 ≡ Some ask) (sym told.2.still_open) oldest)
 
     grows : version_of history ≤ version_of (and_then history m)
     grows = omega (arith, same-none history m refl)
@@ -135,8 +135,8 @@ module _ (history : History) (capacity : ℕ) (steps : List Item) (book : List O
 
     owes-less : owed_by closes.after + 1 ≡ owed_by closes.before
     owes-less =
-        let after : owed_by closes.after ≡ length closes.after.open.items + cond closes.before.left 0 1 = ap (λ (left : Bool). length closes.after.open.items + cond left 0 1) closes.left in
-        omega (arith, after, some, ap length closes.asks, length-drop 1 closes.before.open.items)
+        let after : owed_by closes.after ≡ length closes.after.open_asks.items + cond closes.before.left 0 1 = ap (λ (left : Bool). length closes.after.open_asks.items + cond left 0 1) closes.left in
+        omega (arith, after, some, ap length closes.asks, length-drop 1 closes.before.open_asks.items)
 
     owed-less : sum_by owed_by all' + 1 ≡ sum_by owed_by all
     owed-less = omega (arith, ap (sum_by owed_by) closes.is, sum-written owed_by all (i - 1) closes.before closes.after closes.was, owes-less)

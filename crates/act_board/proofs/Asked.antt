@@ -80,11 +80,11 @@ module _ (history : History) (capacity : ℕ) (steps : List Item) (book : List O
     opened : open_asks (and_then history m) i ≡ open_asks history i ++ ask ∷ []
     opened = open-more i history m ask more-asks refl told.2.collected
 
-    written-asks : opens.after.open.items ≡ opens.before.open.items ++ record { caller = i; number = opens.before.asked + 1; version = version_of history; asked = asked } ∷ []
+    written-asks : opens.after.open_asks.items ≡ opens.before.open_asks.items ++ record { caller = i; number = opens.before.asked + 1; version = version_of history; asked = asked } ∷ []
     written-asks =
         opens.asks
-        ∙ (ap (λ (n : ℕ). opens.before.open.items ++ record { caller = i; number = n; version = version; asked = asked } ∷ []) opens.number
-        ∙ ap (λ (v : ℕ). opens.before.open.items ++ record { caller = i; number = opens.before.asked + 1; version = v; asked = asked } ∷ []) is-now)
+        ∙ (ap (λ (n : ℕ). opens.before.open_asks.items ++ record { caller = i; number = n; version = version; asked = asked } ∷ []) opens.number
+        ∙ ap (λ (v : ℕ). opens.before.open_asks.items ++ record { caller = i; number = opens.before.asked + 1; version = v; asked = asked } ∷ []) is-now)
 
     callers : AreCallers (and_then history m) all'
     callers = subst (AreCallers (and_then history m)) (sym opens.is) (callers-next history m all (i - 1) opens.after (slice_get_within all (i - 1) opens.before opens.was) grows (λ is. sym going ∙ is)
@@ -96,8 +96,8 @@ module _ (history : History) (capacity : ℕ) (steps : List Item) (book : List O
 
     owes-more : owed_by opens.after ≡ owed_by opens.before + 1
     owes-more =
-        let after : owed_by opens.after ≡ length opens.after.open.items + cond opens.before.left 0 1 = ap (λ (left : Bool). length opens.after.open.items + cond left 0 1) opens.left in
-        omega (arith, after, ap length opens.asks, length-append opens.before.open.items (record { caller = i; number = number; version = version; asked = asked } ∷ []))
+        let after : owed_by opens.after ≡ length opens.after.open_asks.items + cond opens.before.left 0 1 = ap (λ (left : Bool). length opens.after.open_asks.items + cond left 0 1) opens.left in
+        omega (arith, after, ap length opens.asks, length-append opens.before.open_asks.items (record { caller = i; number = number; version = version; asked = asked } ∷ []))
 
     owed-more : sum_by owed_by all' ≡ sum_by owed_by all + 1
     owed-more = omega (arith, ap (sum_by owed_by) opens.is, sum-written owed_by all (i - 1) opens.before opens.after opens.was, owes-more)

@@ -92,7 +92,7 @@ module _ (history : History) (capacity : ℕ) (steps : List Item) (book : List O
   }
     where
       owes-same : owed_by same.after ≡ owed_by same.before
-      owes-same = ap (λ (asks : List Asking). length asks + cond same.after.left 0 1) same.asks ∙ ap (λ (left : Bool). length same.before.open.items + cond left 0 1) same.left
+      owes-same = ap (λ (asks : List Asking). length asks + cond same.after.left 0 1) same.asks ∙ ap (λ (left : Bool). length same.before.open_asks.items + cond left 0 1) same.left
 
       owed-same : sum_by owed_by written ≡ sum_by owed_by all
       owed-same = omega (arith, ap (sum_by owed_by) same.is, sum-written owed_by all place same.before same.after same.was, owes-same)
@@ -134,7 +134,7 @@ module _ (history : History) (capacity : ℕ) (steps : List Item) (book : List O
           b.callers)
 
       owes-same : owed_by spends.after ≡ owed_by spends.before
-      owes-same = ap (λ (asks : List Asking). length asks + cond spends.after.left 0 1) spends.asks ∙ ap (λ (left : Bool). length spends.before.open.items + cond left 0 1) spends.left
+      owes-same = ap (λ (asks : List Asking). length asks + cond spends.after.left 0 1) spends.asks ∙ ap (λ (left : Bool). length spends.before.open_asks.items + cond left 0 1) spends.left
 
       owed-same : sum_by owed_by all' ≡ sum_by owed_by all
       owed-same = omega (arith, ap (sum_by owed_by) spends.is, sum-written owed_by all (i - 1) spends.before spends.after spends.was, owes-same)
@@ -201,8 +201,8 @@ module _ (history : History) (capacity : ℕ) (steps : List Item) (book : List O
 
       owes-more : owed_by leaves.before ≡ owed_by leaves.after + 1
       owes-more =
-          let before : owed_by leaves.before ≡ length leaves.before.open.items + 1 = ap (λ (left : Bool). length leaves.before.open.items + cond left 0 1) here in
-          let after : owed_by leaves.after ≡ length leaves.after.open.items + 0 = ap (λ (left : Bool). length leaves.after.open.items + cond left 0 1) leaves.left in
+          let before : owed_by leaves.before ≡ length leaves.before.open_asks.items + 1 = ap (λ (left : Bool). length leaves.before.open_asks.items + cond left 0 1) here in
+          let after : owed_by leaves.after ≡ length leaves.after.open_asks.items + 0 = ap (λ (left : Bool). length leaves.after.open_asks.items + cond left 0 1) leaves.left in
           omega (arith, before, after, ap length leaves.asks)
 
       owed-less : sum_by owed_by all' + 1 ≡ sum_by owed_by all

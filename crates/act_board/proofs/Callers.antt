@@ -78,7 +78,7 @@ module _ (history : History) (m : Mark) (grows : version_of history ≤ version_
       few_asked = is.few_asked;
       few_open = is.few_open;
       collected = omega (arith, is.collected, count-not (is_collect_by i) history.marks m spares.collect, ap length spares.asks);
-      asks = All-weaker (IsAsk history) (IsAsk (and_then history m)) ask-still caller.open.items is.asks;
+      asks = All-weaker (IsAsk history) (IsAsk (and_then history m)) ask-still caller.open_asks.items is.asks;
       gone = λ left going. is.gone left (back going);
     }
 
@@ -93,7 +93,7 @@ going-on history m not = any-not is_give_up history.marks m not
 
 module _ (history : History) (i limit : ℕ) (before after : Caller) (is : IsCaller history i limit before) where
   -- it is written as it was
-  pub caller-same : after.left ≡ before.left → after.remaining ≡ before.remaining → after.asked ≡ before.asked → after.open.items ≡ before.open.items → IsCaller history i limit after
+  pub caller-same : after.left ≡ before.left → after.remaining ≡ before.remaining → after.asked ≡ before.asked → after.open_asks.items ≡ before.open_asks.items → IsCaller history i limit after
   caller-same left remaining asked asks = record {
     left = left ∙ is.left;
     quota = ap (λ (n : ℕ). n + appended_by history i) remaining ∙ is.quota;
@@ -108,7 +108,7 @@ module _ (history : History) (i limit : ℕ) (before after : Caller) (is : IsCal
 
   -- it has appended an entry
   pub caller-appended : (entry : Obs) → version_of history ≤ version_of (and_then history (mark.Append i entry)) → 0 < before.remaining
-      → after.left ≡ before.left → after.remaining ≡ before.remaining - 1 → after.asked ≡ before.asked → after.open.items ≡ before.open.items → IsCaller (and_then history (mark.Append i entry)) i limit after
+      → after.left ≡ before.left → after.remaining ≡ before.remaining - 1 → after.asked ≡ before.asked → after.open_asks.items ≡ before.open_asks.items → IsCaller (and_then history (mark.Append i entry)) i limit after
   caller-appended entry grows some left remaining asked asks =
       let m = mark.Append i entry in
       let same : asks_by (and_then history m) i ≡ asks_by history i = asks-append i history m (record { caller = i; step = step.Append entry }) entry refl refl in
@@ -120,7 +120,7 @@ module _ (history : History) (i limit : ℕ) (before after : Caller) (is : IsCal
         few_asked = omega (arith, is.few_asked, asked);
         few_open = omega (arith, is.few_open, ap length asks);
         collected = omega (arith, is.collected, count-not (is_collect_by i) history.marks m refl, ap length same);
-        asks = subst (All (IsAsk (and_then history m))) (sym asks) (All-weaker (IsAsk history) (IsAsk (and_then history m)) (ask-still history m grows) before.open.items is.asks);
+        asks = subst (All (IsAsk (and_then history m))) (sym asks) (All-weaker (IsAsk history) (IsAsk (and_then history m)) (ask-still history m grows) before.open_asks.items is.asks);
         gone = λ gone going. asks ∙ is.gone (sym left ∙ gone) (sym (going-on history m refl) ∙ going);
       }
 
@@ -128,13 +128,13 @@ module _ (history : History) (i limit : ℕ) (before after : Caller) (is : IsCal
   pub caller-asked : (asked : Asked) → version_of history ≤ version_of (and_then history (mark.Ask i asked)) → has_left history i ≡ false
       → is_known history.portfolio.names (step.Ask asked) ≡ true → length (open_asks history i) < 256 → length (asks_by history i) < 4_194_304
       → after.left ≡ before.left → after.remaining ≡ before.remaining → after.asked ≡ before.asked + 1
-      → after.open.items ≡ before.open.items ++ record { caller = i; number = before.asked + 1; version = version_of history; asked = asked } ∷ [] → IsCaller (and_then history (mark.Ask i asked)) i limit after
+      → after.open_asks.items ≡ before.open_asks.items ++ record { caller = i; number = before.asked + 1; version = version_of history; asked = asked } ∷ [] → IsCaller (and_then history (mark.Ask i asked)) i limit after
   caller-asked asked grows here known few_open few_asked left remaining number asks =
       let m = mark.Ask i asked in
       let ask : Asking = record { caller = i; number = 1 + length (asks_by history i); version = version_of history; asked = asked } in
       let numbered : before.asked + 1 ≡ 1 + length (asks_by history i) = omega (arith, is.asked) in
-      let opened : after.open.items ≡ before.open.items ++ ask ∷ [] =
-      asks ∙ ap (λ (n : ℕ). before.open.items ++ record { caller = i; number = n; version = version_of history; asked = asked } ∷ []) numbered in
+      let opened : after.open_asks.items ≡ before.open_asks.items ++ ask ∷ [] =
+      asks ∙ ap (λ (n : ℕ). before.open_asks.items ++ record { caller = i; number = n; version = version_of history; asked = asked } ∷ []) numbered in
       let more : asks_by (and_then history m) i ≡ asks_by history i ++ ask ∷ [] = asks-own i history m (record { caller = i; step = step.Ask asked }) asked refl refl (same-caller i) in
       record {
         left = left ∙ (is.left ∙ sym (any-not (is_leave_by i) history.marks m refl));
@@ -142,17 +142,17 @@ module _ (history : History) (i limit : ℕ) (before after : Caller) (is : IsCal
         asked = omega (arith, number, is.asked, ap length more, length-append (asks_by history i) (ask ∷ []));
         still_open = opened ∙ (ap (λ (xs : List Asking). xs ++ ask ∷ []) is.still_open ∙ sym (open-more i history m ask more refl is.collected));
         few_asked = omega (arith, number, is.asked, few_asked);
-        few_open = omega (arith, ap length opened, length-append before.open.items (ask ∷ []), ap length is.still_open, few_open);
+        few_open = omega (arith, ap length opened, length-append before.open_asks.items (ask ∷ []), ap length is.still_open, few_open);
         collected = omega (arith, is.collected, count-not (is_collect_by i) history.marks m refl, ap length more, length-append (asks_by history i) (ask ∷ []));
         asks = subst (All (IsAsk (and_then history m))) (sym opened)
-            (All-push (IsAsk (and_then history m)) before.open.items ask (All-weaker (IsAsk history) (IsAsk (and_then history m)) (ask-still history m grows) before.open.items is.asks)
+            (All-push (IsAsk (and_then history m)) before.open_asks.items ask (All-weaker (IsAsk history) (IsAsk (and_then history m)) (ask-still history m grows) before.open_asks.items is.asks)
             (record { known = known; version = grows }));
         gone = λ gone going. absurd (let stays = sym (sym left ∙ gone) ∙ (is.left ∙ here) in cc);
       }
 
   -- it has collected
-  pub caller-collected : version_of history ≤ version_of (and_then history (mark.Collect i)) → 0 < length before.open.items
-      → after.left ≡ before.left → after.remaining ≡ before.remaining → after.asked ≡ before.asked → after.open.items ≡ drop 1 before.open.items → IsCaller (and_then history (mark.Collect i)) i limit after
+  pub caller-collected : version_of history ≤ version_of (and_then history (mark.Collect i)) → 0 < length before.open_asks.items
+      → after.left ≡ before.left → after.remaining ≡ before.remaining → after.asked ≡ before.asked → after.open_asks.items ≡ drop 1 before.open_asks.items → IsCaller (and_then history (mark.Collect i)) i limit after
   caller-collected grows some left remaining asked asks =
       let m : Mark = mark.Collect i in
       let same : asks_by (and_then history m) i ≡ asks_by history i = asks-same i history m refl in
@@ -163,16 +163,16 @@ module _ (history : History) (i limit : ℕ) (before after : Caller) (is : IsCal
         asked = asked ∙ (is.asked ∙ sym (ap length same));
         still_open = asks ∙ (ap (λ (xs : List Asking). drop 1 xs) is.still_open ∙ sym (open-less i history m same (same-caller i)));
         few_asked = omega (arith, is.few_asked, asked);
-        few_open = omega (arith, is.few_open, ap length asks, length-drop 1 before.open.items);
+        few_open = omega (arith, is.few_open, ap length asks, length-drop 1 before.open_asks.items);
         collected = omega (arith, is.collected, some, ap length is.still_open, long, count-yes (is_collect_by i) history.marks m (same-caller i), ap length same);
         asks = subst (All (IsAsk (and_then history m))) (sym asks)
-            (All-drop (IsAsk (and_then history m)) 1 before.open.items (All-weaker (IsAsk history) (IsAsk (and_then history m)) (ask-still history m grows) before.open.items is.asks));
+            (All-drop (IsAsk (and_then history m)) 1 before.open_asks.items (All-weaker (IsAsk history) (IsAsk (and_then history m)) (ask-still history m grows) before.open_asks.items is.asks));
         gone = λ gone going. asks ∙ ap (λ (xs : List Asking). drop 1 xs) (is.gone (sym left ∙ gone) (sym (going-on history m refl) ∙ going));
       }
 
   -- it has left
   pub caller-left : version_of history ≤ version_of (and_then history (mark.Leave i)) → (open_asks history i ≡ []) ⊎ (is_given_up history ≡ true)
-      → after.left ≡ true → after.remaining ≡ before.remaining → after.asked ≡ before.asked → after.open.items ≡ before.open.items → IsCaller (and_then history (mark.Leave i)) i limit after
+      → after.left ≡ true → after.remaining ≡ before.remaining → after.asked ≡ before.asked → after.open_asks.items ≡ before.open_asks.items → IsCaller (and_then history (mark.Leave i)) i limit after
   caller-left grows done left remaining asked asks =
       let m : Mark = mark.Leave i in
       let same : asks_by (and_then history m) i ≡ asks_by history i = asks-same i history m refl in
@@ -184,7 +184,7 @@ module _ (history : History) (i limit : ℕ) (before after : Caller) (is : IsCal
         few_asked = omega (arith, is.few_asked, asked);
         few_open = omega (arith, is.few_open, ap length asks);
         collected = omega (arith, is.collected, count-not (is_collect_by i) history.marks m refl, ap length same);
-        asks = subst (All (IsAsk (and_then history m))) (sym asks) (All-weaker (IsAsk history) (IsAsk (and_then history m)) (ask-still history m grows) before.open.items is.asks);
+        asks = subst (All (IsAsk (and_then history m))) (sym asks) (All-weaker (IsAsk history) (IsAsk (and_then history m)) (ask-still history m grows) before.open_asks.items is.asks);
         gone = λ gone going. asks ∙ elim done [
           | inl none ↦ is.still_open ∙ none
           | inr over ↦ absurd (let not : is_given_up history ≡ false = sym (going-on history m refl) ∙ going in cc)
@@ -227,7 +227,7 @@ callers-next history m callers place after within grows back spares here are = r
 
 -- one is written as it was
 pub callers-same : (history : History) (callers : List Caller) (place : ℕ) (before after : Caller) → slice_get callers place ≡ Some before
-    → after.left ≡ before.left → after.remaining ≡ before.remaining → after.asked ≡ before.asked → after.open.items ≡ before.open.items → AreCallers history callers → AreCallers history (set callers place after)
+    → after.left ≡ before.left → after.remaining ≡ before.remaining → after.asked ≡ before.asked → after.open_asks.items ≡ before.open_asks.items → AreCallers history callers → AreCallers history (set callers place after)
 callers-same history callers place before after at_before left remaining asked asks are = record {
   count = length-set callers place after ∙ are.count;
   few = omega (arith, length-set callers place after, are.few);

@@ -1,5 +1,5 @@
 -- A board whose runs are dropped that nobody can ask for any more.
-use Rattle.std.proofs.Common.{◌≡◌, ◌⊎◌, ℕ, zero, suc, ◌+◌, ◌-◌, ◌<◌, ◌≤◌, cond, Bool, true, false, List, [], ◌∷◌, length, get_or, Some, inl, inr, refl, sym, ap, subst, ◌∙◌, arith, sum_by}
+use Rattle.std.proofs.Common.{◌≡◌, ◌⊎◌, ℕ, zero, suc, ◌-◌, ◌<◌, cond, Bool, true, false, List, [], ◌∷◌, length, Some, inl, inr, refl, sym, ap, subst, ◌∙◌, arith, sum_by}
 use Rattle.std.specs.List.{Contains, slice_get}
 use Rattle.std.proofs.lemmas.List.Sums.{sum_by-cons}
 use Rattle.std.proofs.lemmas.Option.{same_Some, slice_get-get_or, slice_get_within}
@@ -8,8 +8,8 @@ use Rattle.act_model.specs.declared.journal.Item.{Item}
 use Rattle.act_model.specs.declared.observed.Obs.{Obs}
 use Rattle.act_refs.specs.Path.{IsChild}
 use Rattle.act_board.specs.Dropping.{Drops, IsDropped, IsUnasked}
-use Rattle.act_board.specs.History.{History, IsWanted, has_result, open_asks, version_of}
-use Rattle.act_board.specs.Kept.{AreSorted, ArePairs, Has, IsAt, IsBoard, IsListed, IsOver, IsPair, IsPast, contract_at, is_before, is_done, is_under_way, is_waiting, owed, owed_by, owed_for}
+use Rattle.act_board.specs.History.{History, IsWanted, has_result}
+use Rattle.act_board.specs.Kept.{ArePairs, Has, IsAt, IsBoard, IsListed, IsOver, IsPair, contract_at, is_done, is_under_way, is_waiting, owed_for}
 use Rattle.act_board.specs.declared.caller.Caller.{Caller}
 use Rattle.act_board.specs.declared.pair.Pair.{Pair}
 use Rattle.act_board.specs.declared.pair.Progress.{Progress}
@@ -74,8 +74,8 @@ module _ (history : History) (capacity : ℕ) (steps : List Item) (book : List O
       none c wanted =
           let one = some-there all (wanted.caller - 1) (omega (arith, wanted.from, wanted.to, b.callers.count)) in
           let told = caller-told history capacity steps book all pairs front owes gave_up b wanted.caller one.0 wanted.from one.1 in
-          let there : Contains one.0.«open».items wanted.ask = subst (λ (asks : List Asking). Contains asks wanted.ask) (sym told.2.still_open) wanted.still_open in
-          let at : slice_get one.0.«open».items there.0 ≡ Some wanted.ask = slice_get-get_or one.0.«open».items there.0 wanted.ask there.1 ∙ ap Some there.2 in
+          let there : Contains one.0.open_asks.items wanted.ask = subst (λ (asks : List Asking). Contains asks wanted.ask) (sym told.2.still_open) wanted.still_open in
+          let at : slice_get one.0.open_asks.items there.0 ≡ Some wanted.ask = slice_get-get_or one.0.open_asks.items there.0 wanted.ask there.1 ∙ ap Some there.2 in
           unasked.1 (wanted.caller - 1) one.0 one.1 there.0 wanted.ask at wanted.version
 
   kept-at : (before after : Pair) → IsDropped before after → (after ≡ before) ⊎ IsUnasked all (length book) before.version → IsPair history before → IsPair history after

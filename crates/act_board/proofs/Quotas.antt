@@ -26,13 +26,13 @@ module _ (history : History) (capacity : ℕ) (steps : List Item) (book : List O
   pub quota-left : 0 < caller.remaining → HasQuota history i
   quota-left some = (i - 1, told.0, omega arith, told.1, omega (arith, some, told.2.quota))
 
-  pub few-open : length (open_asks history i) ≡ length caller.open.items
+  pub few-open : length (open_asks history i) ≡ length caller.open_asks.items
   few-open = sym (ap length told.2.still_open)
 
   pub few-asked : length (asks_by history i) ≡ caller.asked
   few-asked = sym told.2.asked
 
-  pub open-within : length caller.open.items ≤ 256
+  pub open-within : length caller.open_asks.items ≤ 256
   open-within = told.2.few_open
 
   -- ---- a caller that may append
@@ -46,7 +46,7 @@ module _ (history : History) (capacity : ℕ) (steps : List Item) (book : List O
   -- the book has room for its entry
   pub book-room : 0 < caller.remaining → length book < 1_048_576
   book-room some =
-      let spent : Caller = record { left = caller.left; remaining = 0; asked = caller.asked; «open» = caller.open } in
+      let spent : Caller = record { left = caller.left; remaining = 0; asked = caller.asked; open_asks = caller.open_asks } in
       omega (arith, b.fits, some, sum-written (λ (one : Caller). one.remaining) all (i - 1) caller spent at)
 
 -- the element at a place

@@ -13,7 +13,7 @@ NoneOf asks v = (k : ℕ) (ask : Asking) → slice_get asks k ≡ Some ask → �
 
 -- no open ask is
 abbrev pub NoneOpen : List Caller → ℕ → Type 0
-NoneOpen callers v = (k : ℕ) (caller : Caller) → slice_get callers k ≡ Some caller → NoneOf caller.«open».items v
+NoneOpen callers v = (k : ℕ) (caller : Caller) → slice_get callers k ≡ Some caller → NoneOf caller.open_asks.items v
 
 -- a version is before the book's, and no open ask is of it
 abbrev pub IsUnasked : List Caller → ℕ → ℕ → Type 0

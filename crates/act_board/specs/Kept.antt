@@ -17,7 +17,7 @@ use Rattle.act_refs.specs.Ordered.{order_of}
 use Rattle.act_refs.specs.Path.{IsChild}
 use Rattle.act_swap.specs.Children.{AreInDayOrder, RunsAreInDayOrder}
 use Rattle.act_board.specs.History.{History, IsWanted, appended_by, asks_by, collected_by, entries_of, has_left, has_result, is_given_up, journal_of, open_asks, version_of, was_claimed}
-use Rattle.act_board.specs.Legal.{IsSound, most_asks, most_open}
+use Rattle.act_board.specs.Legal.{IsSound, most_asks, most_callers, most_open}
 use Rattle.act_board.specs.declared.caller.Caller.{Caller}
 use Rattle.act_board.specs.declared.pair.Pair.{Pair}
 use Rattle.act_board.specs.declared.pair.Progress.{Progress}
@@ -35,17 +35,17 @@ pub record IsCaller (history : History) (i limit : ℕ) (caller : Caller) : Type
   pub left : caller.left ≡ has_left history i
   pub quota : caller.remaining + appended_by history i ≡ limit
   pub asked : caller.asked ≡ length (asks_by history i)
-  pub still_open : caller.open.items ≡ open_asks history i
+  pub still_open : caller.open_asks.items ≡ open_asks history i
   pub few_asked : caller.asked ≤ most_asks
-  pub few_open : length caller.open.items ≤ most_open
+  pub few_open : length caller.open_asks.items ≤ most_open
   pub collected : collected_by history i ≤ length (asks_by history i)
-  pub asks : All (IsAsk history) caller.open.items
-  pub gone : caller.left ≡ true → is_given_up history ≡ false → caller.open.items ≡ []
+  pub asks : All (IsAsk history) caller.open_asks.items
+  pub gone : caller.left ≡ true → is_given_up history ≡ false → caller.open_asks.items ≡ []
 
 -- what is kept of all callers
 pub record AreCallers (history : History) (callers : List Caller) : Type 0 where
   pub count : length callers ≡ length history.quotas
-  pub few : length callers ≤ 16
+  pub few : length callers ≤ most_callers
   pub each : (k quota : ℕ) (caller : Caller) → slice_get history.quotas k ≡ Some quota → slice_get callers k ≡ Some caller → IsCaller history (suc k) quota caller
 
 -- a caller who has done nothing yet
@@ -53,7 +53,7 @@ pub record IsNewcomer (quota : ℕ) (caller : Caller) : Type 0 where
   pub here : caller.left ≡ false
   pub whole : caller.remaining ≡ quota
   pub silent : caller.asked ≡ 0
-  pub none : caller.open.items ≡ []
+  pub none : caller.open_asks.items ≡ []
 
 -- one for each quota
 pub record AreNewcomers (quotas : List ℕ) (callers : List Caller) : Type 0 where
@@ -70,7 +70,7 @@ pub record OpensAsk (old : List Caller) (place : ℕ) (ask : Asking) (new : List
   pub remaining : after.remaining ≡ before.remaining
   pub asked : after.asked ≡ before.asked + 1
   pub number : ask.number ≡ before.asked + 1
-  pub asks : after.open.items ≡ before.open.items ++ ask ∷ []
+  pub asks : after.open_asks.items ≡ before.open_asks.items ++ ask ∷ []
 
 -- a caller is written at its place with one entry less that it may append
 pub record Spends (old : List Caller) (place : ℕ) (new : List Caller) : Type 0 where
@@ -81,7 +81,7 @@ pub record Spends (old : List Caller) (place : ℕ) (new : List Caller) : Type 0
   pub left : after.left ≡ before.left
   pub remaining : after.remaining ≡ before.remaining - 1
   pub asked : after.asked ≡ before.asked
-  pub asks : after.open.items ≡ before.open.items
+  pub asks : after.open_asks.items ≡ before.open_asks.items
 
 -- a caller is written at its place without the oldest of its open asks
 pub record ClosesOldest (old : List Caller) (place : ℕ) (new : List Caller) : Type 0 where
@@ -92,7 +92,7 @@ pub record ClosesOldest (old : List Caller) (place : ℕ) (new : List Caller) : 
   pub left : after.left ≡ before.left
   pub remaining : after.remaining ≡ before.remaining
   pub asked : after.asked ≡ before.asked
-  pub asks : after.open.items ≡ drop 1 before.open.items
+  pub asks : after.open_asks.items ≡ drop 1 before.open_asks.items
 
 -- a caller is written at its place as one that has left
 pub record Leaves (old : List Caller) (place : ℕ) (new : List Caller) : Type 0 where
@@ -103,7 +103,7 @@ pub record Leaves (old : List Caller) (place : ℕ) (new : List Caller) : Type 0
   pub left : after.left ≡ true
   pub remaining : after.remaining ≡ before.remaining
   pub asked : after.asked ≡ before.asked
-  pub asks : after.open.items ≡ before.open.items
+  pub asks : after.open_asks.items ≡ before.open_asks.items
 
 -- a caller is written at its place as it was
 pub record IsUntouched (old : List Caller) (place : ℕ) (new : List Caller) : Type 0 where
@@ -114,7 +114,7 @@ pub record IsUntouched (old : List Caller) (place : ℕ) (new : List Caller) : T
   pub left : after.left ≡ before.left
   pub remaining : after.remaining ≡ before.remaining
   pub asked : after.asked ≡ before.asked
-  pub asks : after.open.items ≡ before.open.items
+  pub asks : after.open_asks.items ≡ before.open_asks.items
 
 -- ---- contracts at versions
 
@@ -263,7 +263,7 @@ IsPast pairs front = (k : ℕ) (pair : Pair) → k < front → slice_get pairs k
 
 -- how many marks a caller, a pair and a board still owe: one for each open ask and one for leaving, one for what is claimed, one for giving up
 abbrev pub owed_by : Caller → ℕ
-owed_by caller = length caller.open.items + cond caller.left 0 1
+owed_by caller = length caller.open_asks.items + cond caller.left 0 1
 
 abbrev pub owed_for : Pair → ℕ
 owed_for pair = cond (is_under_way pair.progress) 1 0

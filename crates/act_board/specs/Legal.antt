@@ -8,6 +8,10 @@ use Rattle.act_board.specs.History.{History, IsPresent, IsWanted, appended_by, a
 use Rattle.act_board.specs.declared.mark.Mark.{Mark}
 use Rattle.act_board.specs.declared.mark.Mark.TheVariants.{Append, Ask, Claim, Finish, Collect, Leave, GiveUp}
 
+-- the most callers of a board
+abbrev pub most_callers : ℕ
+most_callers = 16
+
 -- the most asks of a caller that are open at a time
 abbrev pub most_open : ℕ
 most_open = 256

@@ -1,5 +1,6 @@
 pub mod Calls
 pub mod Dropping
+pub mod Entries
 pub mod History
 pub mod Kept
 pub mod Legal

@@ -1,11 +1,11 @@
 //! The board.
 use crate::below::below;
 use crate::caller::{
-    Caller, MOST_ASKS, MOST_OPEN, all_left, callers_of, close_oldest, oldest, open_ask, set_left,
-    spend,
+    Caller, MOST_ASKS, MOST_CALLERS, MOST_OPEN, all_left, callers_of, close_oldest, oldest,
+    open_ask, set_left, spend,
 };
 use crate::claiming::{are_ready, children_results, first_waiting, next_claimable, results_of};
-use crate::dropping::drop_results;
+use crate::dropping::drop_runs;
 use crate::mark::Mark;
 use crate::outcome::{AppendFault, AskFault, Claim, Collected};
 use crate::pair::{Pair, Progress, is_claimed, put_progress};
@@ -13,7 +13,7 @@ use crate::room::{append_entry, make_room, make_room_for_step, put_ask, put_entr
 use crate::wanting::{numbers, want_all};
 use crate::work::{Done, Task};
 use act_book::Book;
-use act_model::{Answer, Asked, Item, Obs};
+use act_model::{Answer, Asked, Item, MOST_ENTRIES, Obs};
 use act_num::NoMemory;
 use act_portfolio::Portfolio;
 use std::alloc::Global;
@@ -36,7 +36,7 @@ pub struct Board {
     pairs: Vec<Pair>,
     /// No pair before this place is waiting.
     front: usize,
-    /// No pair before this place has a run: nobody can ask for them any more.
+    /// Where the dropping of runs goes on: pairs before this place were gone over.
     dropped: usize,
     /// How many marks are still to come for which there is room: one for each open ask, each caller that hasn't left, each
     /// claim that hasn't come back, and one for giving up.
@@ -79,8 +79,8 @@ impl Board {
         quotas: &[u64],
     ) -> Result<Board, NoMemory>
         requires some { 1 ≤ length quotas.now }
-        requires few { length quotas.now ≤ 16 }
-        requires fits { sum quotas.now ≤ 1_048_576 }
+        requires few { length quotas.now ≤ MOST_CALLERS }
+        requires fits { sum quotas.now ≤ MOST_ENTRIES }
         ensures { IfOk result (λ board. board ≡ record { portfolio = arc_value portfolio; quotas = quotas.now; marks = [] }) }
     {
         // A portfolio tells of its order only where it is asked for it, and the invariant speaks of that.
@@ -126,7 +126,7 @@ impl Board {
         requires to { caller ≤ length self.now.quotas }
         ensures { result ≡ length (open_asks self.now caller) }
     {
-        self.callers[caller as usize - 1].open.len() as u32
+        self.callers[caller as usize - 1].open_asks.len() as u32
     }
 
     /// A caller appends an entry to the book. It answers how many there are then.
@@ -180,22 +180,24 @@ impl Board {
             return Err(AskFault::GivenUp);
         }
         let asking = &self.callers[caller as usize - 1];
-        if asking.open.len() >= MOST_OPEN || asking.asked >= MOST_ASKS {
+        if asking.open_asks.len() >= MOST_OPEN || asking.asked >= MOST_ASKS {
             return Err(AskFault::AsksFull);
         }
-        self.drop_results();
+        // What it gives back can serve the ask; the history stays as it is, also where memory runs out all the same.
+        self.drop_runs();
         match self.take_ask(caller, asked) {
             Ok(number) => Ok(number),
             Err(NoMemory) => Err(AskFault::NoMemory),
         }
     }
 
-    /// Drops the runs that nobody can ask for any more: of versions before the book's that no open ask is of.
-    fn drop_results(&mut self)
+    /// Drops the runs of the earliest versions, up to the first that an open ask is of, or the book's: nobody can ask for them any
+    /// more.
+    fn drop_runs(&mut self)
         ensures { self.new ≡ self.old }
     {
         let version = self.book.len();
-        self.dropped = drop_results(&mut self.pairs, self.dropped, &self.callers, version);
+        self.dropped = drop_runs(&mut self.pairs, self.dropped, &self.callers, version);
     }
 
     /// Takes an ask of a caller that may make one. It answers the ask's number among the caller's.

@@ -9,6 +9,9 @@ use act_num::NoMemory;
 use std::alloc::Global;
 use std::collections::VecDeque;
 
+/// The most callers of a board.
+pub const MOST_CALLERS: usize = 16;
+
 /// The most asks of a caller that are open at a time.
 pub(crate) const MOST_OPEN: usize = 256;
 
@@ -25,7 +28,7 @@ pub(crate) struct Caller {
     /// How many asks it has made.
     pub asked: u32,
     /// Its open asks, the oldest first.
-    pub open: VecDeque<Asking>,
+    pub open_asks: VecDeque<Asking>,
 }
 
 /// A caller for each quota, who has done nothing yet.
@@ -38,7 +41,7 @@ pub(crate) fn callers_of(alloc: Global, quotas: &[u64]) -> Result<Vec<Caller>, N
             left: false,
             remaining: *quota,
             asked: 0,
-            open: VecDeque::new(alloc),
+            open_asks: VecDeque::new(alloc),
         })?;
     }
     Ok(callers)
@@ -72,7 +75,7 @@ pub(crate) fn open_ask(
         version,
         asked,
     };
-    let Ok(()) = one.open.push_back(asking) else {
+    let Ok(()) = one.open_asks.push_back(asking) else {
         return Err(NoMemory);
     };
     one.asked = number;
@@ -93,10 +96,10 @@ pub(crate) fn spend(callers: &mut [Caller], caller: u32)
 pub(crate) fn oldest(callers: &[Caller], caller: u32) -> Asking
     requires from { 1 ≤ caller }
     requires to { caller ≤ length callers.now }
-    requires some { (one : Caller) → slice_get callers.now (caller - 1) ≡ Some one → 0 < length one.open.items }
-    ensures { (one : Caller) → slice_get callers.now (caller - 1) ≡ Some one → slice_get one.open.items 0 ≡ Some result }
+    requires some { (one : Caller) → slice_get callers.now (caller - 1) ≡ Some one → 0 < length one.open_asks.items }
+    ensures { (one : Caller) → slice_get callers.now (caller - 1) ≡ Some one → slice_get one.open_asks.items 0 ≡ Some result }
 {
-    match callers[caller as usize - 1].open.front() {
+    match callers[caller as usize - 1].open_asks.front() {
         Some(ask) => *ask,
         None => unreachable!(),
     }
@@ -108,7 +111,7 @@ pub(crate) fn close_oldest(callers: &mut [Caller], caller: u32)
     requires to { caller ≤ length callers.old }
     ensures { ClosesOldest callers.old (caller - 1) callers.new }
 {
-    let _ = callers[caller as usize - 1].open.pop_front();
+    let _ = callers[caller as usize - 1].open_asks.pop_front();
 }
 
 /// Notes that a caller has left.

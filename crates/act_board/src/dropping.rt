@@ -9,24 +9,19 @@ use std::collections::VecDeque;
 
 /// Drops the runs of pairs, from a place on, as long as these are of versions before one that no open ask is of. It answers
 /// where it stopped.
-pub(crate) fn drop_results(
-    pairs: &mut [Pair],
-    from: usize,
-    callers: &[Caller],
-    version: u64,
-) -> usize
+pub(crate) fn drop_runs(pairs: &mut [Pair], from: usize, callers: &[Caller], version: u64) -> usize
     ensures { Drops pairs.old callers.now version pairs.new }
 {
     let mut place = from;
     while place < pairs.len() && is_unasked(&pairs[place], callers, version) {
-        drop_result(&mut pairs[place]);
+        drop_run(&mut pairs[place]);
         place += 1;
     }
     place
 }
 
 /// Drops the run of a pair, where it has one.
-fn drop_result(pair: &mut Pair)
+fn drop_run(pair: &mut Pair)
     ensures { IsDropped pair.old pair.new }
 {
     if is_done(&pair.progress) {
@@ -46,7 +41,7 @@ fn is_open(callers: &[Caller], version: u64) -> bool
     ensures { result ≡ false → NoneOpen callers.now version }
 {
     for caller in callers {
-        if has_version(&caller.open, version) {
+        if has_version(&caller.open_asks, version) {
             return true;
         }
     }

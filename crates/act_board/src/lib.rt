@@ -7,6 +7,7 @@ mod board;
 mod caller;
 mod claiming;
 mod dropping;
+mod history;
 mod mark;
 mod outcome;
 mod pair;
@@ -15,6 +16,8 @@ mod wanting;
 mod work;
 
 pub use board::Board;
+pub use caller::MOST_CALLERS;
+pub use history::Entry;
 pub use mark::Mark;
 pub use outcome::{AppendFault, AskFault, Claim, Collected};
 pub use work::{Done, Task};

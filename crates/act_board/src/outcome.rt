@@ -1,12 +1,6 @@
 //! What the calls of a board answer.
-ghost use Rattle.std.specs.Prelude.{◌≡◌};
-ghost use Rattle.act_board.specs.declared.outcome.AppendFault.TheVariants as appending;
-ghost use Rattle.act_board.specs.declared.outcome.AskFault.TheVariants as asking;
-
 use crate::work::Task;
 use act_model::Answer;
-use act_num::NoMemory;
-use std::alloc::{AllocError, AllocFailed};
 
 /// Why an entry isn't appended.
 #[derive(Clone, Copy, Debug, PartialEq, Eq)]
@@ -52,36 +46,4 @@ pub enum Collected {
     NotYet,
     /// The board was given up.
     GivenUp,
-}
-
-impl From<NoMemory> for AppendFault {
-    ghost from_gives = { λ _ fault. fault ≡ appending.NoMemory };
-
-    fn from(_error: NoMemory) -> AppendFault {
-        AppendFault::NoMemory
-    }
-}
-
-impl From<AllocError> for AppendFault {
-    ghost from_gives = { λ _ fault. fault ≡ appending.NoMemory };
-
-    fn from(_error: AllocError) -> AppendFault {
-        AppendFault::NoMemory
-    }
-}
-
-impl From<NoMemory> for AskFault {
-    ghost from_gives = { λ _ fault. fault ≡ asking.NoMemory };
-
-    fn from(_error: NoMemory) -> AskFault {
-        AskFault::NoMemory
-    }
-}
-
-impl From<AllocError> for AskFault {
-    ghost from_gives = { λ _ fault. fault ≡ asking.NoMemory };
-
-    fn from(_error: AllocError) -> AskFault {
-        AskFault::NoMemory
-    }
 }

@@ -16,11 +16,11 @@ use Rattle.act_profile.specs.Run.{Contracts, run_of}
 abbrev pub rows_of : Contracts → List Obs → ℕ → ℕ → ℕ
 rows_of contracts book c v = length (run_of contracts (take v book) c).rows
 
--- how many rows those runs have that there are, at each version
+-- how many rows the runs of a version have, of those that there are
 abbrev pub rows_at : Contracts → List Obs → (ℕ → ℕ → Bool) → ℕ → ℕ
 rows_at contracts book has v = sum_by (λ c. cond (has c v) (rows_of contracts book c v) 0) (range_with_len 0 (length contracts.terms))
 
--- and together
+-- how many those of all versions have
 abbrev pub rows_made : Contracts → List Obs → (ℕ → ℕ → Bool) → ℕ
 rows_made contracts book has = sum_by (rows_at contracts book has) (range_with_len 0 (length book + 1))
 
@@ -40,8 +40,8 @@ pub record IsAskedFor (history : History) (c v : ℕ) : Type 0 where
 abbrev pub IsAnswered : History → Asking → Type 0
 IsAnswered history ask = (c : ℕ) → c < length history.portfolio.contracts.terms → is_reached_by history ask c ≡ true → has_result history c ask.version ≡ true
 
--- one caller has the board, and is there; what was claimed has come back; results are those of asks, and each ask has its own, but for the
--- open ones, over all entries, that are being answered
+-- One caller has the board, and is there. What was claimed has come back. Each result is of a contract that an ask asks for or reaches; each
+-- ask has all its results, but for those that are open, which are over all entries
 pub record IsQuiet (of : Accepted) (history : History) : Type 0 where
   pub portfolio : history.portfolio ≡ of
   pub alone : length history.quotas ≡ 1

@@ -35,7 +35,7 @@ pub(crate) fn append(board: &mut Board, entry: Obs) -> Result<(), NoMemory>
     }
 }
 
-/// The caller asks, all its asks before are answered, and what it asks for is evaluated.
+/// The caller, all of whose asks are answered, asks; what it asks for is evaluated, and the answer is given.
 pub(crate) fn answer<L: Ledger>(
     alloc: Global,
     portfolio: &Portfolio,
@@ -55,6 +55,7 @@ pub(crate) fn answer<L: Ledger>(
     ensures ticked { IfOk result (λ _. (book : List Obs) → take (version_of board.old) book ≡ entries_of board.old →
         steps.new + rows_made portfolio.now.contracts book (has_result board.old) ≡ steps.old + rows_made portfolio.now.contracts book (has_result board.new)) }
 {
+    // A portfolio tells of its order and its names only where it is asked for them.
     let _ = portfolio.order();
     let _ = portfolio.named();
     ask(board, asked)?;

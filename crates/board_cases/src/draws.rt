@@ -1,5 +1,5 @@
 //! Numbers that are drawn one after the other.
-ghost use Rattle.std.specs.Prelude.{◌≡◌, ◌<◌, true, IfSome};
+ghost use Rattle.std.specs.Prelude.{◌≡◌, ◌<◌, true};
 ghost use Rattle.act_model.specs.Observed.{is_entry};
 
 use act_date::Day;
@@ -8,6 +8,17 @@ use act_num::Fixed;
 
 /// The number of 2020-01-02.
 const FIRST_DAY: u32 = 18_263;
+
+/// The number of 2021-01-01, on which the rate of the portfolios is reset.
+const RESET_DAY: u32 = 18_628;
+
+/// An entry that a book takes.
+#[derive(Clone, Copy)]
+pub struct Entry {
+    /// What it says.
+    pub says: Obs,
+    ghost is_entry: { is_entry says ≡ true },
+}
 
 /// Numbers that are drawn one after the other.
 #[derive(Drop)]
@@ -29,21 +40,30 @@ impl Draws {
         (self.seed >> 33) as u32 % bound
     }
 
-    /// A rate of the one code, or each fourth time a prepayment or a default of a contract of four.
-    pub fn entry(&mut self) -> Option<Obs>
-        ensures { IfSome result (λ entry. is_entry entry ≡ true) }
-    {
-        let (sort, whose) = (self.below(16), self.below(4));
-        let day = Day::from_number(i64::from(FIRST_DAY + self.below(720)))?;
+    /// A caller's number, 1 to 4: half of the times this one.
+    pub fn caller(&mut self, often: u32) -> u32 {
+        if self.below(2) == 0 {
+            often
+        } else {
+            self.below(4) + 1
+        }
+    }
+
+    /// A rate of the one code, on the day of the reset half of the times, or each fourth time a prepayment or, seldom, a
+    /// default of a contract of four.
+    pub fn entry(&mut self) -> Option<Entry> {
+        let (sort, whose) = (self.below(64), self.below(4));
+        let some_day = FIRST_DAY + self.below(720);
+        let day = Day::from_number(i64::from(if sort < 40 { some_day } else { RESET_DAY }))?;
         let value = Fixed::from_units(i128::from(self.below(90_000_000)))?;
-        Some(match sort {
+        let says = match sort {
             0 => Obs::Event {
                 contract: whose,
                 kind: ObsKind::DF,
                 day,
                 value: Fixed::ZERO,
             },
-            1..=3 => Obs::Event {
+            1..=15 => Obs::Event {
                 contract: whose,
                 kind: ObsKind::PP,
                 day,
@@ -54,6 +74,7 @@ impl Draws {
                 day,
                 value,
             },
-        })
+        };
+        Some(Entry { says })
     }
 }

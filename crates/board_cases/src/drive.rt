@@ -1,238 +1,196 @@
-//! Drives of a board: random calls, whose answers are compared with those of the simulation.
-use crate::draws::Draws;
+//! A board that is driven by random calls, whose answers are compared with those of the simulation.
+ghost use Rattle.std.specs.Prelude.{◌≤◌, length, sum};
+
+use crate::draws::{Draws, Entry};
 use crate::driven::{Claimed, Driven};
+use crate::expected::Expected;
 use crate::portfolios::{LINKED, portfolio};
-use crate::report::Report;
+use crate::share::{Call, Share};
 use crate::simulation::{Collecting, Noted, Simulation};
+use crate::tallies::Tallies;
 use act_board::{AppendFault, AskFault, Collected};
-use act_model::{Answer, Asked, Close, Obs};
+use act_model::{Answer, Asked};
 use act_num::Steps;
 use std::alloc::Global;
 use std::sync::ledger::Ledger;
 
-/// How many entries each caller may append.
-const QUOTAS: [u64; 4] = [10, 20, 40, 400];
-
-/// The calls that are drawn: of a hundred so many appends, asks, claims, tasks that come back, and collects; the rest leave.
-#[derive(Clone, Copy)]
-struct Share {
-    append: u32,
-    ask: u32,
-    claim: u32,
-    finish: u32,
-    collect: u32,
-}
-
-/// While all go on.
-const BUSY: Share = Share {
-    append: 14,
-    ask: 21,
-    claim: 27,
-    finish: 21,
-    collect: 16,
-};
-
-/// While more is asked than collected.
-const ASKING: Share = Share {
-    append: 10,
-    ask: 45,
-    claim: 20,
-    finish: 16,
-    collect: 8,
-};
-
-/// While all come to an end.
-const ENDING: Share = Share {
-    append: 0,
-    ask: 0,
-    claim: 25,
-    finish: 24,
-    collect: 45,
-};
-
-/// After somebody gave up.
-const OVER: Share = Share {
-    append: 15,
-    ask: 15,
-    claim: 15,
-    finish: 30,
-    collect: 20,
-};
-
-/// A run that was collected: its contract and version, how many rows it has, and how it closes.
-#[derive(Clone, Copy, PartialEq, Eq)]
-struct Seen {
-    contract: u32,
-    version: u64,
-    rows: usize,
-    close: Close,
-}
-
-/// How often a call had an answer.
-#[derive(Clone, Copy)]
-struct Tally {
-    what: &'static str,
-    count: u64,
+/// What came of the calls.
+#[derive(Drop)]
+pub struct Counts {
+    /// How often they had which answers.
+    pub tallies: Tallies,
+    /// How many were made.
+    pub calls: u64,
+    /// How many answers differ from the simulation's.
+    pub differ: u64,
+    /// How many runs were compared with one of a board of its own.
+    pub compared: u64,
+    /// How many of these differ.
+    pub runs_differ: u64,
 }
 
 /// A board, its simulation, and what came of the calls.
 #[derive(Drop)]
-struct Drive {
+pub struct Drive {
     alloc: Global,
     board: Driven,
     simulation: Simulation,
     draws: Draws,
-    seen: Vec<Seen>,
-    tallies: Vec<Tally>,
-    /// How many calls were made.
-    calls: u64,
-    /// How many answers differ from the simulation's.
-    differ: u64,
-    /// How many runs were collected again.
-    again: u64,
+    /// What each run has to be.
+    pub expected: Expected,
+    /// What came of the calls so far.
+    pub counts: Counts,
 }
 
-/// Tells of two sorts of drives: those after which all have left, and those in which somebody gives up.
-pub fn drives_told<L: Ledger>(report: &mut Report, steps: &mut Steps<L>) {
-    if ended_told(report, steps).is_none() {
-        report.fail("a drive to the end");
-    }
-    if given_up_told(report, steps).is_none() {
-        report.fail("a drive until somebody gives up");
-    }
-}
-
-/// Tells of the drives after which all have left.
-fn ended_told<L: Ledger>(report: &mut Report, steps: &mut Steps<L>) -> Option<()> {
-    let mut drive = Drive::new(report.alloc)?;
-    for seed in 1..7 {
-        drive.renew(seed)?;
-        drive.go(BUSY, 900, steps)?;
-        drive.go(ENDING, 700, steps)?;
-    }
-    report.text("six boards until all have left\n");
-    drive.told(report, 10);
-    Some(())
-}
-
-/// Tells of the drives in which somebody gives up.
-fn given_up_told<L: Ledger>(report: &mut Report, steps: &mut Steps<L>) -> Option<()> {
-    let mut drive = Drive::new(report.alloc)?;
-    for seed in 7..11 {
-        drive.renew(seed)?;
-        drive.go(ASKING, 1_400, steps)?;
-        drive.give_up()?;
-        drive.go(OVER, 250, steps)?;
-        drive.give_up()?;
-    }
-    report.text("four boards until somebody gives up\n");
-    drive.told(report, 15);
-    Some(())
-}
-
-impl Drive {
+impl Counts {
     /// No calls.
-    fn new(alloc: Global) -> Option<Drive> {
-        let portfolio = portfolio(alloc, LINKED)?;
-        Some(Drive {
-            alloc,
-            board: Driven::new(alloc, &portfolio, &QUOTAS).ok()?,
-            simulation: Simulation::new(alloc, &portfolio, &QUOTAS)?,
-            draws: Draws { seed: 0 },
-            seen: Vec::new(alloc),
-            tallies: Vec::new(alloc),
+    fn new(alloc: Global) -> Counts {
+        Counts {
+            tallies: Tallies::new(alloc),
             calls: 0,
             differ: 0,
-            again: 0,
-        })
-    }
-
-    /// Goes on with a board on which nothing has happened.
-    fn renew(&mut self, seed: u64) -> Option<()> {
-        let portfolio = portfolio(self.alloc, LINKED)?;
-        self.board = Driven::new(self.alloc, &portfolio, &QUOTAS).ok()?;
-        self.simulation = Simulation::new(self.alloc, &portfolio, &QUOTAS)?;
-        self.draws.seed = seed;
-        self.seen.clear();
-        Some(())
-    }
-
-    /// Draws so many calls, and makes those that may be made. None where memory runs out or the board refuses to make one.
-    fn go<L: Ledger>(&mut self, share: Share, count: u32, steps: &mut Steps<L>) -> Option<()> {
-        for _ in 0..count {
-            self.step(share, steps)?;
-            self.look()?;
+            compared: 0,
+            runs_differ: 0,
         }
-        Some(())
-    }
-
-    /// Draws a call.
-    fn step<L: Ledger>(&mut self, share: Share, steps: &mut Steps<L>) -> Option<()> {
-        let caller = self.draws.below(4) + 1;
-        let mut drawn = self.draws.below(100);
-        if drawn < share.append {
-            return self.append(caller);
-        }
-        drawn -= share.append;
-        if drawn < share.ask {
-            return self.ask();
-        }
-        drawn -= share.ask;
-        if drawn < share.claim {
-            return self.claim();
-        }
-        drawn -= share.claim;
-        if drawn < share.finish {
-            return self.finish(steps);
-        }
-        drawn -= share.finish;
-        if drawn < share.collect {
-            return self.collect(caller);
-        }
-        self.leave(caller)
     }
 
     /// Counts a call and its answer, and whether it differs.
-    fn count(&mut self, what: &'static str, is_right: bool) -> Option<()> {
+    fn add(&mut self, what: &'static str, is_right: bool) -> Option<()> {
         self.calls = self.calls.saturating_add(1);
         if !is_right {
             self.differ = self.differ.saturating_add(1);
         }
-        for tally in self.tallies.iter_mut() {
-            if tally.what == what {
-                tally.count = tally.count.saturating_add(1);
+        self.tallies.add(what)
+    }
+
+    /// Counts a run that was compared.
+    fn add_run(&mut self, is_right: bool) {
+        self.compared = self.compared.saturating_add(1);
+        if !is_right {
+            self.runs_differ = self.runs_differ.saturating_add(1);
+        }
+    }
+}
+
+impl Drive {
+    /// A board on which nothing has happened, for callers with these quotas.
+    pub fn new(alloc: Global, quotas: &[u64], seed: u64) -> Option<Drive>
+        requires some { 1 ≤ length quotas.now }
+        requires few { length quotas.now ≤ 16 }
+        requires fits { sum quotas.now ≤ 1_048_576 }
+    {
+        let portfolio = portfolio(alloc, LINKED)?;
+        Some(Drive {
+            alloc,
+            board: Driven::new(alloc, &portfolio, quotas).ok()?,
+            simulation: Simulation::new(alloc, &portfolio, quotas)?,
+            draws: Draws { seed },
+            expected: Expected::new(alloc, &portfolio)?,
+            counts: Counts::new(alloc),
+        })
+    }
+
+    /// Goes on with a board on which nothing has happened, and with what was counted.
+    pub fn renew(&mut self, quotas: &[u64], seed: u64) -> Option<()>
+        requires some { 1 ≤ length quotas.now }
+        requires few { length quotas.now ≤ 16 }
+        requires fits { sum quotas.now ≤ 1_048_576 }
+    {
+        let next = Drive::new(self.alloc, quotas, seed)?;
+        self.board = next.board;
+        self.simulation = next.simulation;
+        self.draws = next.draws;
+        self.expected = next.expected;
+        Some(())
+    }
+
+    /// Draws calls until so many were made, half of those of callers by this one. None where memory runs out, the board
+    /// refuses to make one, or twenty times as many drawn calls don't make them.
+    pub fn go<L: Ledger>(
+        &mut self,
+        share: Share,
+        often: u32,
+        count: u64,
+        steps: &mut Steps<L>,
+    ) -> Option<()> {
+        let end = self.counts.calls.saturating_add(count);
+        for _ in 0..count.saturating_mul(20) {
+            if self.counts.calls >= end {
                 return Some(());
             }
+            self.step(share, often, steps)?;
         }
-        self.tallies.push(Tally { what, count: 1 }).ok()
+        None
+    }
+
+    /// Draws so many calls, and makes those that may be made, unless all have left before.
+    pub fn draw<L: Ledger>(
+        &mut self,
+        share: Share,
+        often: u32,
+        count: u64,
+        steps: &mut Steps<L>,
+    ) -> Option<()> {
+        for _ in 0..count {
+            if self.is_empty() {
+                return Some(());
+            }
+            self.step(share, often, steps)?;
+        }
+        Some(())
+    }
+
+    /// Whether the journal is the simulation's.
+    pub fn is_journal(&self) -> bool {
+        self.board.journal() == self.simulation.journal()
+    }
+
+    /// Whether all have left.
+    pub fn is_empty(&self) -> bool {
+        !(1..5).any(|caller| self.simulation.is_here(caller))
+    }
+
+    /// Draws a call, makes it where it may be made, and compares what the board shows then.
+    fn step<L: Ledger>(&mut self, share: Share, often: u32, steps: &mut Steps<L>) -> Option<()> {
+        let caller = self.draws.caller(often);
+        let drawn = self.draws.below(100);
+        match share.call(drawn) {
+            Call::Append => self.append(caller)?,
+            Call::Ask => self.ask(caller)?,
+            Call::Claim => self.claim()?,
+            Call::Finish => self.finish(steps)?,
+            Call::Collect => self.collect(caller, steps)?,
+            Call::Leave => self.leave(caller)?,
+        }
+        self.look()
     }
 
     /// Compares what the board shows.
     fn look(&mut self) -> Option<()> {
         let mut is_right = self.board.version() == self.simulation.version()
-            && self.board.steps() == self.simulation.steps();
+            && self.board.journal().len() == self.simulation.journal().len()
+            && self.board.journal().last() == self.simulation.journal().last();
         let caller = self.draws.below(4) + 1;
-        let is_here = self.simulation.is_here(caller);
-        is_right = is_right && is_here == self.board.is_here(caller);
+        is_right = is_right && self.simulation.is_here(caller) == self.board.is_here(caller);
         if let Some(open) = self.board.open_asks(caller) {
-            is_right = is_right && open as usize == self.simulation.open_asks(caller)?.len();
+            is_right = is_right && open as usize == self.simulation.open_asks(caller)?;
         }
         if !is_right {
-            self.differ = self.differ.saturating_add(1);
+            self.counts.differ = self.counts.differ.saturating_add(1);
         }
         Some(())
     }
 
     /// A caller appends an entry that is drawn.
     fn append(&mut self, caller: u32) -> Option<()> {
-        let entry: Obs = self.draws.entry()?;
+        let entry: Entry = self.draws.entry()?;
         if !self.simulation.is_here(caller) {
             return Some(());
         }
-        let wanted = self.simulation.appending(caller);
-        let got = self.board.append(caller, entry)?;
+        let wanted = self.simulation.appending(caller)?;
+        let got = self.board.append(caller, entry.says)?;
         if got.is_ok() {
-            self.simulation.note(Noted::Append(caller))?;
+            self.simulation.note(Noted::Append(caller, entry))?;
         }
         let what = match got {
             Ok(_) => "append: a version",
@@ -240,12 +198,11 @@ impl Drive {
             Err(AppendFault::GivenUp) => "append: GivenUp",
             Err(AppendFault::NoMemory) => return None,
         };
-        self.count(what, got == wanted)
+        self.counts.add(what, got == wanted)
     }
 
-    /// A caller asks, half of the times the last one.
-    fn ask(&mut self) -> Option<()> {
-        let caller = (self.draws.below(6) + 1).min(4);
+    /// A caller asks, for all contracts or for one.
+    fn ask(&mut self, caller: u32) -> Option<()> {
         let asked = match self.draws.below(5) {
             4 => Asked::All,
             contract => Asked::One(contract),
@@ -264,12 +221,12 @@ impl Drive {
             Err(AskFault::GivenUp) => "ask: GivenUp",
             Err(AskFault::NoMemory) => return None,
         };
-        self.count(what, got == wanted)
+        self.counts.add(what, got == wanted)
     }
 
     /// Somebody claims.
-    fn claim(&mut self) -> Option<()> {
-        let wanted = self.simulation.claiming()?;
+    pub fn claim(&mut self) -> Option<()> {
+        let wanted = self.simulation.claiming();
         let got = self.board.claim().ok()?;
         let what = match got {
             Claimed::Task(contract, version) => {
@@ -280,7 +237,7 @@ impl Drive {
             Claimed::Ended => "claim: Ended",
             Claimed::GivenUp => "claim: GivenUp",
         };
-        self.count(what, got == wanted)
+        self.counts.add(what, got == wanted)
     }
 
     /// A task that is at hand is made and comes back.
@@ -295,16 +252,14 @@ impl Drive {
         if is_right {
             self.simulation.note(Noted::Finish(contract, version))?;
         }
-        self.count("finish", is_right)
+        self.counts.add("finish", is_right)
     }
 
     /// Somebody gives up.
-    fn give_up(&mut self) -> Option<()> {
+    pub fn give_up(&mut self) -> Option<()> {
         self.board.give_up(0);
-        if !self.simulation.is_given_up() {
-            self.simulation.note(Noted::GiveUp)?;
-        }
-        self.count("give_up", true)
+        self.simulation.note(Noted::GiveUp)?;
+        self.counts.add("give_up", true)
     }
 
     /// A caller leaves, where it may.
@@ -312,17 +267,17 @@ impl Drive {
         if !self.simulation.is_here(caller) {
             return Some(());
         }
-        let may = self.simulation.is_given_up() || self.simulation.open_asks(caller)?.is_empty();
+        let may = self.simulation.is_given_up() || self.simulation.open_asks(caller)? == 0;
         let has = self.board.leave(caller);
         if has {
             self.simulation.note(Noted::Leave(caller))?;
-            return self.count("leave", may);
+            return self.counts.add("leave", may);
         }
         if may { None } else { Some(()) }
     }
 
     /// A caller collects, where it has an open ask.
-    fn collect(&mut self, caller: u32) -> Option<()> {
+    fn collect<L: Ledger>(&mut self, caller: u32, steps: &mut Steps<L>) -> Option<()> {
         if !self.simulation.is_here(caller) {
             return Some(());
         }
@@ -331,18 +286,23 @@ impl Drive {
         };
         let (what, is_right) = match self.board.collect(caller)?.ok()? {
             Collected::Ready(answer) => {
-                let is_right = self.is_answer(&answer, wanted)?;
+                let is_right = self.is_answer(&answer, wanted, steps)?;
                 self.simulation.note(Noted::Collect(caller))?;
                 ("collect: Ready", is_right)
             }
             Collected::NotYet => ("collect: NotYet", wanted == Collecting::NotYet),
             Collected::GivenUp => ("collect: GivenUp", wanted == Collecting::GivenUp),
         };
-        self.count(what, is_right)
+        self.counts.add(what, is_right)
     }
 
-    /// Whether an answer is that of the ask, and each of its runs as it was before.
-    fn is_answer(&mut self, answer: &Answer, wanted: Collecting) -> Option<bool> {
+    /// Whether an answer is that of the ask, and each of its runs is that of the contract over the entries before the ask.
+    fn is_answer<L: Ledger>(
+        &mut self,
+        answer: &Answer,
+        wanted: Collecting,
+        steps: &mut Steps<L>,
+    ) -> Option<bool> {
         let Collecting::Ready(ask) = wanted else {
             return Some(false);
         };
@@ -354,40 +314,13 @@ impl Drive {
             Asked::All => 0,
             Asked::One(contract) => contract,
         };
+        let entries = self.simulation.entries(ask.version)?;
         for (of, run) in &answer.runs {
-            let is_same = self.is_same(Seen {
-                contract: *of,
-                version: ask.version,
-                rows: run.rows.count(),
-                close: run.close,
-            })?;
-            is_right = is_right && *of == contract && is_same;
+            let is_run = self.expected.is_run(contract, entries, run, steps)?;
+            self.counts.add_run(is_run);
+            is_right = is_right && *of == contract && is_run;
             contract = contract.saturating_add(1);
         }
         Some(is_right)
-    }
-
-    /// Whether a run is as it was when it was collected before; it is kept where it wasn't.
-    fn is_same(&mut self, run: Seen) -> Option<bool> {
-        for seen in &self.seen {
-            if seen.contract == run.contract && seen.version == run.version {
-                self.again = self.again.saturating_add(1);
-                return Some(*seen == run);
-            }
-        }
-        self.seen.push(run).ok()?;
-        Some(true)
-    }
-
-    /// Tells what came of it: whether there were calls enough, with so many sorts of answers, each often enough.
-    fn told(&self, report: &mut Report, sorts: usize) {
-        let is_often = self.tallies.iter().all(|tally| tally.count >= 8);
-        let is_all = self.tallies.len() == sorts;
-        report.line("  5,000 calls at least", self.calls >= 5_000);
-        report.line("  sorts of answers", self.tallies.len());
-        report.line("  each of them 8 times at least", is_often);
-        report.line("  200 runs at least collected again", self.again >= 200);
-        report.line("  answers that differ", self.differ);
-        report.trouble = report.trouble || self.differ > 0 || !is_often || !is_all;
     }
 }

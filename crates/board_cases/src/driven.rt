@@ -3,8 +3,8 @@ ghost use Rattle.std.specs.Prelude.{◌≡◌, true, false, length, replicate, I
 ghost use Rattle.act_model.specs.Journal.{is_known};
 ghost use Rattle.act_model.specs.declared.journal.Step.TheVariants as step;
 
-use act_board::{AppendFault, AskFault, Board, Claim, Collected, Task};
-use act_model::{Asked, Obs};
+use act_board::{AppendFault, AskFault, Board, Claim, Collected, Done, Task};
+use act_model::{Asked, Item, Obs};
 use act_num::{NoMemory, Steps};
 use act_portfolio::Portfolio;
 use std::alloc::Global;
@@ -49,7 +49,8 @@ impl Model for Driven {
 }
 
 impl Driven {
-    ghost use Rattle.std.specs.Prelude.{◌≡◌, ◌≤◌, true, length, sum};
+    ghost use Rattle.std.specs.Prelude.{◌≡◌, ◌≤◌, [], true, length, sum, IfOk, IfSome};
+    ghost use Rattle.std.specs.Arc.{arc_value};
     ghost use Rattle.act_model.specs.Observed.{is_entry};
     ghost use Rattle.act_board.specs.History.{IsPresent};
 
@@ -62,6 +63,7 @@ impl Driven {
         requires some { 1 ≤ length quotas.now }
         requires few { length quotas.now ≤ 16 }
         requires fits { sum quotas.now ≤ 1_048_576 }
+        ensures portfolio { IfOk result (λ driven. driven.portfolio ≡ arc_value portfolio.now) }
     {
         let left = none_left(alloc, quotas)?;
         let own = Arc::try_clone(portfolio)?;
@@ -89,9 +91,9 @@ impl Driven {
         }
     }
 
-    /// How many steps its journal has.
-    pub fn steps(&self) -> usize {
-        self.board.journal().len()
+    /// The steps of all callers, one after another.
+    pub fn journal(&self) -> &[Item] {
+        self.board.journal()
     }
 
     /// How many entries its book has.
@@ -123,7 +125,9 @@ impl Driven {
     }
 
     /// A caller asks. None where it isn't here, or there is no contract of that number.
-    pub fn ask(&mut self, caller: u32, asked: Asked) -> Option<Result<u32, AskFault>> {
+    pub fn ask(&mut self, caller: u32, asked: Asked) -> Option<Result<u32, AskFault>>
+        ensures portfolio { self.new.portfolio ≡ self.old.portfolio }
+    {
         if !self.is_here(caller) || !is_named(&self.portfolio, asked) {
             return None;
         }
@@ -131,7 +135,9 @@ impl Driven {
     }
 
     /// Claims a task, which is at hand from here on.
-    pub fn claim(&mut self) -> Result<Claimed, NoMemory> {
+    pub fn claim(&mut self) -> Result<Claimed, NoMemory>
+        ensures portfolio { self.new.portfolio ≡ self.old.portfolio }
+    {
         match self.board.claim()? {
             Claim::Task(task) => {
                 let claimed = Claimed::Task(task.contract(), task.version());
@@ -152,7 +158,9 @@ impl Driven {
         alloc: Global,
         place: usize,
         steps: &mut Steps<L>,
-    ) -> Option<(u32, u64)> {
+    ) -> Option<(u32, u64)>
+        ensures portfolio { self.new.portfolio ≡ self.old.portfolio }
+    {
         let task = self.tasks.swap_remove_back(place)?;
         let (contract, version) = (task.contract(), task.version());
         match task.work(alloc, &self.portfolio, steps) {
@@ -167,6 +175,39 @@ impl Driven {
         }
     }
 
+    /// Makes the task at a place, which is over no entries, and hands it out. None where there is none or memory runs out.
+    pub fn made<L: Ledger>(
+        &mut self,
+        alloc: Global,
+        place: usize,
+        steps: &mut Steps<L>,
+    ) -> Option<Done>
+        ensures portfolio { IfSome result (λ done. done.portfolio ≡ self.old.portfolio) }
+        ensures entries { IfSome result (λ done. done.entries ≡ []) }
+    {
+        let task = self.tasks.swap_remove_back(place)?;
+        if task.version() != 0 {
+            drop(task);
+            return None;
+        }
+        match task.work(alloc, &self.portfolio, steps) {
+            Ok(done) => Some(done),
+            Err(task) => {
+                drop(task);
+                None
+            }
+        }
+    }
+
+    /// Hands back what another board of the same portfolio handed out over no entries, once it is made.
+    pub fn finish_other(&mut self, done: Done)
+        requires portfolio { done.portfolio ≡ self.old.portfolio }
+        requires entries { done.entries ≡ [] }
+        ensures portfolio { self.new.portfolio ≡ self.old.portfolio }
+    {
+        self.board.finish(done);
+    }
+
     /// Somebody gives up, and drops the task at a place, if there is one.
     pub fn give_up(&mut self, place: usize) {
         let task = self.tasks.swap_remove_back(place);
@@ -175,7 +216,9 @@ impl Driven {
     }
 
     /// A caller collects. None where it isn't here or has no open ask.
-    pub fn collect(&mut self, caller: u32) -> Option<Result<Collected, NoMemory>> {
+    pub fn collect(&mut self, caller: u32) -> Option<Result<Collected, NoMemory>>
+        ensures portfolio { self.new.portfolio ≡ self.old.portfolio }
+    {
         if !self.is_here(caller) || self.board.open_asks(caller) == 0 {
             return None;
         }

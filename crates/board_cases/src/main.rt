@@ -1,17 +1,20 @@
 //! Makes calls of a board, and tells what it answered: in worked rows, and in long drives whose answers are compared with those
-//! of a simulation that keeps a plain list of marks. It ends with 1 where an answer differs.
+//! of a simulation that goes by the marks alone, and each run with that of a fresh board. It ends with 1 where an answer differs.
 #![tactic(auto)]
 
-ghost use Rattle.std.specs.Prelude.{◌≡◌, ◌<◌};
 ghost use Rattle.std.specs.Prelude.{◌≡◌, ◌<◌};
 
 mod draws;
 mod drive;
 mod driven;
+mod drives;
+mod expected;
 mod portfolios;
 mod report;
 mod rows;
+mod share;
 mod simulation;
+mod tallies;
 
 use act_num::Steps;
 use report::Report;
@@ -39,7 +42,8 @@ fn told<L: Ledger>(alloc: Global, blank: Blank) -> Report
     let mut steps = Steps::<L>::new(blank);
     rows::empty_told(&mut report);
     rows::loan_told(&mut report, &mut steps);
-    drive::drives_told(&mut report, &mut steps);
+    rows::dropped_told(&mut report, &mut steps);
+    drives::drives_told(&mut report, &mut steps);
     report
 }
 

@@ -51,6 +51,12 @@ impl Report {
         self.text("\n");
     }
 
+    /// Tells whether something that has to hold does.
+    pub fn holds(&mut self, text: &str, it_does: bool) {
+        self.trouble = self.trouble || !it_does;
+        self.line(text, it_does);
+    }
+
     /// Tells that something went wrong, and where.
     pub fn fail(&mut self, place: &str) {
         self.trouble = true;

@@ -1,15 +1,18 @@
-//! What a board has to answer, found anew at each call by going over a plain list of marks.
+//! What a board has to answer, by the marks that it has: who has appended how much, which asks are open, how far each contract
+//! is at each version, and who has left.
+use crate::draws::Entry;
 use crate::driven::Claimed;
 use act_board::{AppendFault, AskFault};
-use act_model::{Asked, Asking};
+use act_model::{Asked, Asking, Item, Step};
 use act_portfolio::Portfolio;
 use std::alloc::Global;
+use std::collections::VecDeque;
 
 /// A mark, by the numbers of callers, contracts and versions.
-#[derive(Clone, Copy, PartialEq, Eq)]
+#[derive(Clone, Copy)]
 pub enum Noted {
     /// A caller appended an entry.
-    Append(u32),
+    Append(u32, Entry),
     /// A caller asked.
     Ask(u32, Asked),
     /// A contract was claimed at a version.
@@ -46,10 +49,23 @@ enum Far {
     Result,
 }
 
-/// The portfolio's references, the quotas, and what has happened.
+/// What a caller has done.
+#[derive(Drop)]
+struct Caller {
+    /// How many entries it may append.
+    quota: u64,
+    /// How many it has appended.
+    appended: u64,
+    /// How many asks it has made.
+    made: u32,
+    /// Those that weren't collected, the oldest first.
+    still_open: VecDeque<Asking>,
+    has_left: bool,
+}
+
+/// The portfolio's references, and what has happened.
 #[derive(Drop)]
 pub struct Simulation {
-    alloc: Global,
     named: u32,
     /// The contracts by their ranks.
     order: Vec<u32>,
@@ -57,8 +73,15 @@ pub struct Simulation {
     children: Vec<Vec<u32>>,
     /// Of each contract which ones are in its cone.
     cones: Vec<Vec<bool>>,
-    quotas: Vec<u64>,
-    marks: Vec<Noted>,
+    /// The callers, from number 1 on.
+    callers: Vec<Caller>,
+    /// What was appended.
+    entries: Vec<Entry>,
+    /// How far each contract is at each version, by version and then by contract.
+    far: Vec<Far>,
+    /// The steps of appends and asks.
+    journal: Vec<Item>,
+    is_given_up: bool,
 }
 
 impl Simulation {
@@ -75,157 +98,168 @@ impl Simulation {
         for contract in 0..children.len() {
             cones.push(cone(alloc, &order, &children, contract)?).ok()?;
         }
+        let far = vec![in alloc; Far::New; order.len()].ok()?;
         Some(Simulation {
-            alloc,
             named: portfolio.named(),
             order,
             children,
             cones,
-            quotas: Vec::from_slice(alloc, quotas).ok()?,
-            marks: Vec::new(alloc),
+            callers: callers_of(alloc, quotas)?,
+            entries: Vec::new(alloc),
+            far,
+            journal: Vec::new(alloc),
+            is_given_up: false,
         })
     }
 
-    /// Notes a mark. None where memory runs out.
+    /// Notes a mark. None where there is no such caller, contract or version, or memory runs out.
     pub fn note(&mut self, mark: Noted) -> Option<()> {
-        self.marks.push(mark).ok()
+        match mark {
+            Noted::Append(caller, entry) => return self.note_append(caller, entry),
+            Noted::Ask(caller, asked) => return self.note_ask(caller, asked),
+            Noted::Claim(contract, version) => {
+                let place = self.place(contract, version);
+                *self.far.get_mut(place)? = Far::Claimed;
+            }
+            Noted::Finish(contract, version) => {
+                let place = self.place(contract, version);
+                *self.far.get_mut(place)? = Far::Result;
+            }
+            Noted::Collect(caller) => {
+                let _ = self
+                    .callers
+                    .get_mut(place_of(caller))?
+                    .still_open
+                    .pop_front()?;
+            }
+            Noted::Leave(caller) => self.callers.get_mut(place_of(caller))?.has_left = true,
+            Noted::GiveUp => self.is_given_up = true,
+        }
+        Some(())
     }
 
-    /// How many marks of appends and asks there are.
-    pub fn steps(&self) -> usize {
-        self.marks
-            .iter()
-            .filter(|mark| matches!(mark, Noted::Append(_) | Noted::Ask(..)))
-            .count()
+    /// Notes that a caller appended an entry; nothing was claimed at the new version.
+    fn note_append(&mut self, caller: u32, entry: Entry) -> Option<()> {
+        let author = self.callers.get_mut(place_of(caller))?;
+        author.appended = author.appended.saturating_add(1);
+        let step = Step::Append(entry.says);
+        self.journal.push(Item { caller, step }).ok()?;
+        self.entries.push(entry).ok()?;
+        for _ in 0..self.order.len() {
+            self.far.push(Far::New).ok()?;
+        }
+        Some(())
+    }
+
+    /// Notes that a caller asked, over the entries that stand there.
+    fn note_ask(&mut self, caller: u32, asked: Asked) -> Option<()> {
+        let version = self.version();
+        let author = self.callers.get_mut(place_of(caller))?;
+        author.made = author.made.saturating_add(1);
+        let step = Step::Ask(asked);
+        self.journal.push(Item { caller, step }).ok()?;
+        let ask = Asking {
+            caller,
+            number: author.made,
+            version,
+            asked,
+        };
+        author.still_open.push_back(ask).ok()
+    }
+
+    /// The steps of appends and asks.
+    pub fn journal(&self) -> &[Item] {
+        &self.journal
     }
 
     /// How many entries were appended.
     pub fn version(&self) -> u64 {
-        self.marks
-            .iter()
-            .filter(|mark| matches!(mark, Noted::Append(_)))
-            .count() as u64
+        self.entries.len() as u64
+    }
+
+    /// The first entries, so many.
+    pub fn entries(&self, version: u64) -> Option<&[Entry]> {
+        let count = version as usize;
+        if count > self.entries.len() {
+            return None;
+        }
+        Some(&self.entries[..count])
     }
 
     /// Whether somebody gave up.
     pub fn is_given_up(&self) -> bool {
-        self.marks.iter().any(|mark| *mark == Noted::GiveUp)
+        self.is_given_up
     }
 
     /// Whether a caller is there and hasn't left.
     pub fn is_here(&self, caller: u32) -> bool {
-        caller >= 1
-            && caller as usize <= self.quotas.len()
-            && !self.marks.iter().any(|mark| *mark == Noted::Leave(caller))
-    }
-
-    /// How many marks are equal to one.
-    fn count(&self, wanted: Noted) -> u64 {
-        self.marks.iter().filter(|mark| **mark == wanted).count() as u64
-    }
-
-    /// How many asks a caller made.
-    fn asks_by(&self, caller: u32) -> u32 {
-        let made = self
-            .marks
-            .iter()
-            .filter(|mark| matches!(mark, Noted::Ask(by, _) if *by == caller))
-            .count();
-        u32::try_from(made).unwrap_or(u32::MAX)
-    }
-
-    /// The asks of a caller that weren't collected, the oldest first.
-    pub fn open_asks(&self, caller: u32) -> Option<Vec<Asking>> {
-        let collected = self.count(Noted::Collect(caller));
-        let (mut number, mut version) = (0_u32, 0_u64);
-        let mut asks = Vec::new(self.alloc);
-        for mark in &self.marks {
-            match *mark {
-                Noted::Append(_) => version = version.saturating_add(1),
-                Noted::Ask(by, asked) if by == caller => {
-                    number = number.saturating_add(1);
-                    if u64::from(number) > collected {
-                        let ask = Asking {
-                            caller,
-                            number,
-                            version,
-                            asked,
-                        };
-                        asks.push(ask).ok()?;
-                    }
-                }
-                _ => {}
-            }
+        match self.callers.get(place_of(caller)) {
+            Some(caller) => !caller.has_left,
+            None => false,
         }
-        Some(asks)
+    }
+
+    /// How many asks of a caller are open.
+    pub fn open_asks(&self, caller: u32) -> Option<usize> {
+        Some(self.callers.get(place_of(caller))?.still_open.len())
     }
 
     /// What a caller that appends is to be answered.
-    pub fn appending(&self, caller: u32) -> Result<u64, AppendFault> {
-        let quota = match self.quotas.get((caller as usize).wrapping_sub(1)) {
-            Some(quota) => *quota,
-            None => 0,
-        };
-        if self.is_given_up() {
+    pub fn appending(&self, caller: u32) -> Option<Result<u64, AppendFault>> {
+        let caller = self.callers.get(place_of(caller))?;
+        Some(if self.is_given_up {
             Err(AppendFault::GivenUp)
-        } else if self.count(Noted::Append(caller)) >= quota {
+        } else if caller.appended >= caller.quota {
             Err(AppendFault::QuotaSpent)
         } else {
             Ok(self.version().saturating_add(1))
-        }
+        })
     }
 
     /// What a caller that asks is to be answered.
     pub fn asking(&self, caller: u32) -> Option<Result<u32, AskFault>> {
-        let open = self.open_asks(caller)?.len();
-        let made = self.asks_by(caller);
-        Some(if self.is_given_up() {
+        let caller = self.callers.get(place_of(caller))?;
+        Some(if self.is_given_up {
             Err(AskFault::GivenUp)
-        } else if open >= 256 || made >= 4_194_304 {
+        } else if caller.still_open.len() >= 256 || caller.made >= 4_194_304 {
             Err(AskFault::AsksFull)
         } else {
-            Ok(made.saturating_add(1))
+            Ok(caller.made.saturating_add(1))
         })
     }
 
     /// What a claim is to be answered.
-    pub fn claiming(&self) -> Option<Claimed> {
-        if self.is_given_up() {
-            return Some(Claimed::GivenUp);
+    pub fn claiming(&self) -> Claimed {
+        if self.is_given_up {
+            return Claimed::GivenUp;
         }
-        let far = self.far()?;
         let mut next = None;
-        let (mut is_lacking, mut is_empty) = (false, true);
-        for caller in 1..=u32::try_from(self.quotas.len()).unwrap_or(16) {
-            is_empty = is_empty && !self.is_here(caller);
-            for ask in &self.open_asks(caller)? {
-                for (rank, contract) in self.order.iter().enumerate() {
-                    let is_wanted = self.is_asked(*ask, *contract);
-                    is_lacking = is_lacking
-                        || (is_wanted && self.at(&far, *contract, ask.version) != Far::Result);
-                    if is_wanted && self.is_claimable(&far, *contract, ask.version) {
-                        next = sooner(next, (ask.version, rank, *contract));
-                    }
+        let mut is_over = true;
+        for caller in &self.callers {
+            is_over = is_over && caller.has_left;
+            for ask in &caller.still_open {
+                is_over = is_over && !self.is_lacking(*ask);
+                if let Some(rank) = self.claimable(*ask) {
+                    next = sooner(next, (ask.version, rank));
                 }
             }
         }
-        Some(match next {
-            Some((version, _, contract)) => Claimed::Task(contract, version),
-            None if is_empty && !is_lacking => Claimed::Ended,
+        match next {
+            Some((version, rank)) => Claimed::Task(self.contract_of(rank), version),
+            None if is_over => Claimed::Ended,
             None => Claimed::Idle,
-        })
+        }
     }
 
     /// What a caller that collects is to be answered; None where it has no open ask.
     pub fn collecting(&self, caller: u32) -> Option<Collecting> {
-        let ask = *self.open_asks(caller)?.first()?;
-        if self.is_given_up() {
+        let ask = *self.callers.get(place_of(caller))?.still_open.front()?;
+        if self.is_given_up {
             return Some(Collecting::GivenUp);
         }
-        let far = self.far()?;
         let is_ready = (0..self.named).all(|contract| {
             !(ask.asked == Asked::All || ask.asked == Asked::One(contract))
-                || self.at(&far, contract, ask.version) == Far::Result
+                || self.far_at(contract, ask.version) == Far::Result
         });
         Some(if is_ready {
             Collecting::Ready(ask)
@@ -236,13 +270,7 @@ impl Simulation {
 
     /// Whether a task may come back: it is claimed.
     pub fn is_claimed(&self, contract: u32, version: u64) -> bool {
-        self.marks
-            .iter()
-            .any(|mark| *mark == Noted::Claim(contract, version))
-            && !self
-                .marks
-                .iter()
-                .any(|mark| *mark == Noted::Finish(contract, version))
+        self.far_at(contract, version) == Far::Claimed
     }
 
     /// How many contracts an ask is answered of.
@@ -253,24 +281,6 @@ impl Simulation {
         }
     }
 
-    /// How far each contract is at each version, by version and then by contract.
-    fn far(&self) -> Option<Vec<Far>> {
-        let versions = (self.version() as usize).saturating_add(1);
-        let count = versions.saturating_mul(self.order.len());
-        let mut far = vec![in self.alloc; Far::New; count].ok()?;
-        for mark in &self.marks {
-            let (place, now) = match *mark {
-                Noted::Claim(contract, version) => (self.place(contract, version), Far::Claimed),
-                Noted::Finish(contract, version) => (self.place(contract, version), Far::Result),
-                _ => continue,
-            };
-            if let Some(old) = far.get_mut(place) {
-                *old = now;
-            }
-        }
-        Some(far)
-    }
-
     /// The place of a contract at a version.
     fn place(&self, contract: u32, version: u64) -> usize {
         (version as usize)
@@ -279,15 +289,40 @@ impl Simulation {
     }
 
     /// How far a contract is at a version.
-    fn at(&self, far: &[Far], contract: u32, version: u64) -> Far {
-        match far.get(self.place(contract, version)) {
-            Some(found) => *found,
+    fn far_at(&self, contract: u32, version: u64) -> Far {
+        match self.far.get(self.place(contract, version)) {
+            Some(far) => *far,
             None => Far::New,
         }
     }
 
+    /// The contract of a rank.
+    fn contract_of(&self, rank: usize) -> u32 {
+        match self.order.get(rank) {
+            Some(contract) => *contract,
+            None => 0,
+        }
+    }
+
+    /// Whether a contract that an ask wants has no result.
+    fn is_lacking(&self, ask: Asking) -> bool {
+        self.order.iter().any(|contract| {
+            self.is_wanted(ask, *contract) && self.far_at(*contract, ask.version) != Far::Result
+        })
+    }
+
+    /// The least rank of a contract that an ask wants and that may be claimed.
+    fn claimable(&self, ask: Asking) -> Option<usize> {
+        for (rank, contract) in self.order.iter().enumerate() {
+            if self.is_wanted(ask, *contract) && self.is_claimable(*contract, ask.version) {
+                return Some(rank);
+            }
+        }
+        None
+    }
+
     /// Whether a contract is in the cone of one that an ask asks for.
-    fn is_asked(&self, ask: Asking, contract: u32) -> bool {
+    fn is_wanted(&self, ask: Asking, contract: u32) -> bool {
         match ask.asked {
             Asked::All => (0..self.named).any(|asked| self.reaches(asked, contract)),
             Asked::One(asked) => self.reaches(asked, contract),
@@ -303,19 +338,40 @@ impl Simulation {
     }
 
     /// Whether a contract that is wanted at a version may be claimed.
-    fn is_claimable(&self, far: &[Far], contract: u32, version: u64) -> bool {
+    fn is_claimable(&self, contract: u32, version: u64) -> bool {
         let is_ready = match self.children.get(contract as usize) {
             Some(children) => children
                 .iter()
-                .all(|child| self.at(far, *child, version) == Far::Result),
+                .all(|child| self.far_at(*child, version) == Far::Result),
             None => false,
         };
-        is_ready && self.at(far, contract, version) == Far::New
+        is_ready && self.far_at(contract, version) == Far::New
     }
 }
 
+/// The place of a caller: its number, from 1, less one.
+fn place_of(caller: u32) -> usize {
+    (caller as usize).wrapping_sub(1)
+}
+
+/// For each quota a caller that has done nothing.
+fn callers_of(alloc: Global, quotas: &[u64]) -> Option<Vec<Caller>> {
+    let mut callers = Vec::new(alloc);
+    for quota in quotas {
+        let caller = Caller {
+            quota: *quota,
+            appended: 0,
+            made: 0,
+            still_open: VecDeque::new(alloc),
+            has_left: false,
+        };
+        callers.push(caller).ok()?;
+    }
+    Some(callers)
+}
+
 /// The one of the less version, and then of the less rank.
-fn sooner(one: Option<(u64, usize, u32)>, other: (u64, usize, u32)) -> Option<(u64, usize, u32)> {
+fn sooner(one: Option<(u64, usize)>, other: (u64, usize)) -> Option<(u64, usize)> {
     match one {
         Some(one) if one <= other => Some(one),
         _ => Some(other),

@@ -11,7 +11,7 @@ pub loop-quota-preserved : goal.loop-quota-preserved
 loop-quota-preserved c =
     let i = c.loop-quota.quota-index in
     let quotas = c.args.quotas.now in
-    let one : Caller = record { left = _; remaining = _; asked = _; «open» = c.new.result } in
+    let one : Caller = record { left = _; remaining = _; asked = _; open_asks = c.new.result } in
     let items : c.push.new.self.items ≡ c.loop-quota.callers.items ++ one ∷ [] = c.in_ok-push.ensures.items in
     record {
       count = ap length items ∙ (length_push c.loop-quota.callers.items one ∙ ap (λ (n : ℕ). n + 1) c.loop-quota.invariant.count);

@@ -9,7 +9,7 @@ returns c =
     let one : Caller = slice_index_or c.args.callers.now place c.index-callers-caller.result in
     record {
       before = one;
-      after = record { left = one.left; remaining = one.remaining; asked = one.asked; «open» = c.pop_front.new.self };
+      after = record { left = one.left; remaining = one.remaining; asked = one.asked; open_asks = c.pop_front.new.self };
       was = slice_get-get_or c.args.callers.now place c.index-callers-caller.result (omega (arith, c.requires.from, c.requires.to));
       is = refl;
       left = refl;

@@ -9,7 +9,7 @@ returns-in_default-clause-unchanged c =
     let one : Caller = slice_index_or c.args.callers.now place c.index-callers-caller.result in
     record {
       before = one;
-      after = record { left = one.left; remaining = one.remaining; asked = one.asked; «open» = c.push_back.new.self };
+      after = record { left = one.left; remaining = one.remaining; asked = one.asked; open_asks = c.push_back.new.self };
       was = slice_get-get_or c.args.callers.now place c.index-callers-caller.result (omega (arith, c.requires.from, c.requires.to));
       is = refl;
       left = refl;
@@ -24,7 +24,7 @@ returns-clause-opened c =
     let one : Caller = slice_index_or c.args.callers.now place c.index-callers-caller.result in
     record {
       before = one;
-      after = record { left = one.left; remaining = one.remaining; asked = one.asked + 1; «open» = c.push_back.new.self };
+      after = record { left = one.left; remaining = one.remaining; asked = one.asked + 1; open_asks = c.push_back.new.self };
       was = slice_get-get_or c.args.callers.now place c.index-callers-caller.result (omega (arith, c.requires.from, c.requires.to));
       is = refl;
       left = refl;

@@ -9,7 +9,7 @@ returns c =
     let one : Caller = slice_index_or c.args.callers.now place c.index-callers-caller.result in
     record {
       before = one;
-      after = record { left = true; remaining = one.remaining; asked = one.asked; «open» = one.open };
+      after = record { left = true; remaining = one.remaining; asked = one.asked; open_asks = one.open_asks };
       was = slice_get-get_or c.args.callers.now place c.index-callers-caller.result (omega (arith, c.requires.from, c.requires.to));
       is = refl;
       left = refl;

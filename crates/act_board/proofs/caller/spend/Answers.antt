@@ -13,7 +13,7 @@ returns c =
     let read : Caller = slice_index_or callers place c.index-callers-caller.result in
     record {
       before = one;
-      after = record { left = one.left; remaining = read.remaining - 1; asked = one.asked; «open» = one.open };
+      after = record { left = one.left; remaining = read.remaining - 1; asked = one.asked; open_asks = one.open_asks };
       was = slice_get-get_or callers place c.index-callers-caller-2.result within;
       is = refl;
       left = refl;

@@ -6,4 +6,4 @@ use Rattle.act_board.proofs.dropping.is_open.Given as goal
 
 -- no ask of the callers before this one is
 abbrev pub invariant-loop-caller : goal.invariant-loop-caller
-invariant-loop-caller l = (k : ℕ) (caller : Caller) → k < l.caller-index → slice_get l.callers k ≡ Some caller → NoneOf caller.«open».items l.version
+invariant-loop-caller l = (k : ℕ) (caller : Caller) → k < l.caller-index → slice_get l.callers k ≡ Some caller → NoneOf caller.open_asks.items l.version

@@ -18,7 +18,7 @@ returns-then-len-ge-MOST_OPEN-clause-full c =
     let asked = ap (λ (h : History). length (asks_by h i)) (sym c.self.view_is) ∙ few-asked _ _ b.items.items b.book b.callers.items b.pairs.items b.front b.owing b.given_up c.self.invariant i one c.requires.present.from at in
     let going = subst (λ (h : History). is_given_up h ≡ false) c.self.view_is (sym c.self.invariant.given_up ∙ c.if-self.false) in
     let full : IsFull c.args.self.now i = elim c.then-len-ge-MOST_OPEN.branch [
-      | then-len-ge-MOST_OPEN-via-then-len-ge-MOST_OPEN w ↦ inl (omega (arith, w.if-len-ge-MOST_OPEN.true, c.len.ensures, one.open.ok.0, opened))
+      | then-len-ge-MOST_OPEN-via-then-len-ge-MOST_OPEN w ↦ inl (omega (arith, w.if-len-ge-MOST_OPEN.true, c.len.ensures, one.open_asks.ok.0, opened))
       | then-len-ge-MOST_OPEN-via-else-len-ge-MOST_OPEN+then-asking-ge-MOST_ASKS w ↦ inr (omega (arith, w.if-asking-ge-MOST_ASKS.true, asked))
     ] in
     (λ is. (going, full), λ both. refl)
@@ -33,8 +33,8 @@ take_ask-requires-clause-legal c =
     let opened = ap (λ (h : History). length (open_asks h i)) (sym c.self.view_is) ∙ few-open _ _ b.items.items b.book b.callers.items b.pairs.items b.front b.owing b.given_up c.self.invariant i one c.requires.present.from at in
     let asked = ap (λ (h : History). length (asks_by h i)) (sym c.self.view_is) ∙ few-asked _ _ b.items.items b.book b.callers.items b.pairs.items b.front b.owing b.given_up c.self.invariant i one c.requires.present.from at in
     let going = subst (λ (h : History). is_given_up h ≡ false) c.self.view_is (sym c.self.invariant.given_up ∙ c.if-self.false) in
-    subst (λ (h : History). IsLegal h (mark.Ask i c.args.asked)) (sym c.drop_results.ensures)
-    (c.requires.present, going, omega (arith, c.if-len-ge-MOST_OPEN.false, c.len.ensures, one.open.ok.0, opened), omega (arith, c.if-asking-ge-MOST_ASKS.false, asked))
+    subst (λ (h : History). IsLegal h (mark.Ask i c.args.asked)) (sym c.drop_runs.ensures)
+    (c.requires.present, going, omega (arith, c.if-len-ge-MOST_OPEN.false, c.len.ensures, one.open_asks.ok.0, opened), omega (arith, c.if-asking-ge-MOST_ASKS.false, asked))
 
 pub returns-in-Ok-clause-full : goal.returns-in-Ok-clause-full
 returns-in-Ok-clause-full c =
@@ -47,7 +47,7 @@ returns-in-Ok-clause-full c =
     let asked = ap (λ (h : History). length (asks_by h i)) (sym c.self.view_is) ∙ few-asked _ _ b.items.items b.book b.callers.items b.pairs.items b.front b.owing b.given_up c.self.invariant i one c.requires.present.from at in (
       λ is. absurd (cc),
       λ both. elim both.1 [
-        | inl many ↦ absurd (omega (arith, many, c.if-len-ge-MOST_OPEN.false, c.len.ensures, one.open.ok.0, opened))
+        | inl many ↦ absurd (omega (arith, many, c.if-len-ge-MOST_OPEN.false, c.len.ensures, one.open_asks.ok.0, opened))
         | inr many ↦ absurd (omega (arith, many, c.if-asking-ge-MOST_ASKS.false, asked))
       ],
     )
@@ -63,7 +63,7 @@ returns-in-Err-clause-full c =
     let asked = ap (λ (h : History). length (asks_by h i)) (sym c.self.view_is) ∙ few-asked _ _ b.items.items b.book b.callers.items b.pairs.items b.front b.owing b.given_up c.self.invariant i one c.requires.present.from at in (
       λ is. absurd (cc),
       λ both. elim both.1 [
-        | inl many ↦ absurd (omega (arith, many, c.if-len-ge-MOST_OPEN.false, c.len.ensures, one.open.ok.0, opened))
+        | inl many ↦ absurd (omega (arith, many, c.if-len-ge-MOST_OPEN.false, c.len.ensures, one.open_asks.ok.0, opened))
         | inr many ↦ absurd (omega (arith, many, c.if-asking-ge-MOST_ASKS.false, asked))
       ],
     )

@@ -12,11 +12,11 @@ at c =
 
 pub overflow_cast-result : goal.overflow_cast-result
 overflow_cast-result c =
-    omega (arith, c.len.ensures, c.index.result.now.open.ok.0, open-within _ _ c.self.inside.items.items c.self.inside.book c.self.inside.callers.items c.self.inside.pairs.items c.self.inside.front c.self.inside.owing c.self.inside.given_up c.self.invariant c.args.caller c.index.result.now c.requires.from (at c))
+    omega (arith, c.len.ensures, c.index.result.now.open_asks.ok.0, open-within _ _ c.self.inside.items.items c.self.inside.book c.self.inside.callers.items c.self.inside.pairs.items c.self.inside.front c.self.inside.owing c.self.inside.given_up c.self.invariant c.args.caller c.index.result.now c.requires.from (at c))
 
 pub returns : goal.returns
 returns c =
     c.len.ensures
-    ∙ (c.index.result.now.open.ok.0
+    ∙ (c.index.result.now.open_asks.ok.0
     ∙ (sym (few-open _ _ c.self.inside.items.items c.self.inside.book c.self.inside.callers.items c.self.inside.pairs.items c.self.inside.front c.self.inside.owing c.self.inside.given_up c.self.invariant c.args.caller c.index.result.now c.requires.from (at c))
     ∙ ap (λ (h : History). length (open_asks h c.args.caller)) c.self.view_is))

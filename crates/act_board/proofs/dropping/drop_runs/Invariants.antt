@@ -1,6 +1,6 @@
-use Rattle.std.proofs.Common.{◌≡◌, ◌-◌, length}
+use Rattle.std.proofs.Common.{◌-◌, length}
 use Rattle.act_board.specs.Dropping.{Drops}
-use Rattle.act_board.proofs.dropping.drop_results.Given as goal
+use Rattle.act_board.proofs.dropping.drop_runs.Given as goal
 
 abbrev pub invariant-loop-place : goal.invariant-loop-place
 invariant-loop-place l = Drops l.fn.pairs l.callers l.version l.pairs

@@ -1,17 +1,17 @@
-use Rattle.std.proofs.Common.{◌≡◌, ℕ, List, length, sym, ap, subst, ◌∙◌}
+use Rattle.std.proofs.Common.{ℕ, List, length, sym, ap, subst, ◌∙◌}
 use Rattle.act_refs.proofs.Turning.{written_back}
 use Rattle.act_board.specs.Dropping.{Drops}
 use Rattle.act_board.specs.declared.caller.Caller.{Caller}
 use Rattle.act_board.specs.declared.pair.Pair.{Pair}
 use Rattle.act_board.proofs.Dropped.{board-dropped}
-use Rattle.act_board.proofs.board.Board.drop_results.Goals as goal
+use Rattle.act_board.proofs.board.Board.drop_runs.Goals as goal
 
 pub invariant_of-self : goal.invariant_of-self
 invariant_of-self c =
     let b = c.self.inside in
-    let new = c.drop_results-self-inside.new.pairs in
+    let new = c.drop_runs-self-inside.new.pairs in
     let drops = subst (λ (v : ℕ). Drops b.pairs.items b.callers.items v new) c.len-version.ensures.length
     (subst (λ (xs : List Caller). Drops b.pairs.items xs c.len-version.result new) c.deref.ensures.value
-    (subst (λ (xs : List Pair). Drops xs c.deref.result.now c.len-version.result new) c.deref_mut.ensures.value c.drop_results-self-inside.ensures)) in
+    (subst (λ (xs : List Pair). Drops xs c.deref.result.now c.len-version.result new) c.deref_mut.ensures.value c.drop_runs-self-inside.ensures)) in
     rw (written_back b.pairs.len new b.pairs.items drops.count (sym c.deref_mut.ensures.len ∙ ap length c.deref_mut.ensures.value))
     (board-dropped _ _ b.items.items b.book b.callers.items b.pairs.items b.front b.owing b.given_up c.self.invariant new drops)

@@ -1,0 +1,5 @@
+pub mod Adds
+pub mod Goes
+pub mod Own
+pub mod Stays
+pub mod Taken

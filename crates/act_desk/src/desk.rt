@@ -1,0 +1,189 @@
+//! The desk.
+ghost use Rattle.std.specs.Prelude.{◌≡◌, ◌⊎◌, ◌+◌, ◌<◌, ◌≤◌, true, [], All, Any, length, sum, vec_len, IfOk};
+ghost use Rattle.std.specs.Arc.{arc_value};
+ghost use mathlib.Core.List.{IsPrefix};
+ghost use Rattle.act_model.specs.Journal.{is_known};
+ghost use Rattle.act_model.specs.Observed.{is_entry};
+ghost use Rattle.act_model.specs.declared.journal.Step.TheVariants.{Ask};
+ghost use Rattle.act_turn.specs.Journal.{entries_of};
+ghost use Rattle.act_turn.specs.Standing.{AreNumbered, IsFree, own_entries};
+ghost use Rattle.act_board.specs.Calls.{IsOf};
+ghost use Rattle.act_board.specs.Entries.{author_of, list_of};
+ghost use Rattle.act_board.specs.History.{IsPresent, is_given_up, open_asks};
+ghost use Rattle.act_desk.specs.Calls.{Appends, Asks, ClaimsOrNot, CollectsOrNot, Finishes, GivesUp, Leaves};
+ghost use Rattle.act_desk.specs.Step.{HasSeen, IsStep, opening};
+
+use act_board::{AppendFault, AskFault, Board, Claim, Collected, Done, MOST_CALLERS, Task};
+use act_model::{Asked, MOST_ENTRIES, Obs};
+use act_num::NoMemory;
+use act_portfolio::Portfolio;
+use act_turn::{NewFault, Pass, Turn};
+use std::alloc::Global;
+use std::marker::Model;
+use std::sync::{Arc, Wait};
+
+/// The most workers of a desk.
+pub const MOST_WORKERS: u32 = 64;
+
+/// What a caller or a worker has of a desk. Contracts see its number, the history that it has seen, as a list, and how many turns
+/// it has had.
+pub type DeskPass = Pass<Board>;
+
+/// A board that callers and workers share, each in a thread of its own: whoever has the turn has the board. Contracts see which
+/// desk it is, and how many passes it has.
+pub struct Desk {
+    turn: Turn<Board>,
+}
+
+impl Model for Desk {
+    ghost use Rattle.act_turn.specs.Standing.{Identity};
+
+    ghost Value = { Identity };
+
+    ghost view = { λ d. d.turn };
+}
+
+impl Desk {
+    /// A desk for as many callers as there are quotas, 1 to 16, and so many workers, at most 64. Each caller may append as many
+    /// entries as its quota says, together at most 1,048,576. There is a pass for each, numbered from 1, the callers' first. What is
+    /// added later is allocated by `alloc`.
+    pub fn new(
+        alloc: Global,
+        portfolio: Arc<Portfolio, Global>,
+        quotas: &[u64],
+        workers: u32,
+    ) -> Result<(Desk, Vec<DeskPass>), NoMemory>
+        requires some { 1 ≤ length quotas.now }
+        requires few { length quotas.now ≤ MOST_CALLERS }
+        requires fits { sum quotas.now ≤ MOST_ENTRIES }
+        requires workers { workers ≤ MOST_WORKERS }
+        ensures seats { IfOk result (λ r. (r.0.seats ≡ length quotas.now + workers) × (vec_len r.1 ≡ length quotas.now + workers)) }
+        ensures passes { IfOk result (λ r. AreNumbered r.0.id (list_of (opening (arc_value portfolio) quotas.now)) r.1.items) }
+        ensures free { IfOk result (λ r. All (IsFree r.0.id) r.1.items) }
+    {
+        let seats = quotas.len() as u32 + workers;
+        let board = Board::new(alloc, portfolio, quotas)?;
+        match Turn::new(alloc, board, seats) {
+            Ok((turn, passes)) => Ok((Desk { turn }, passes)),
+            Err(NewFault { value: _ }) => Err(NoMemory),
+        }
+    }
+
+    /// A caller appends an entry to the book. It answers how many there are then.
+    pub fn append<R: Wait>(
+        &self,
+        rt: &R,
+        pass: &mut DeskPass,
+        caller: u32,
+        entry: Obs,
+    ) -> Result<u64, AppendFault>
+        requires free { IsFree self.now.id pass.old }
+        requires own { pass.old.number ≡ caller }
+        requires present { HasSeen pass.old (λ history. IsPresent history caller) }
+        requires entry { is_entry entry ≡ true }
+        ensures { IsStep pass.old (Appends caller entry result) pass.new }
+    {
+        let mut held = self.turn.take(rt, pass);
+        let answer = held.get_mut().append(caller, entry);
+        self.turn.give(pass, held);
+        answer
+    }
+
+    /// A caller asks for evaluations over the entries that stand in the book. It answers the ask's number among the caller's.
+    pub fn ask<R: Wait>(
+        &self,
+        rt: &R,
+        pass: &mut DeskPass,
+        caller: u32,
+        asked: Asked,
+    ) -> Result<u32, AskFault>
+        requires free { IsFree self.now.id pass.old }
+        requires own { pass.old.number ≡ caller }
+        requires present { HasSeen pass.old (λ history. IsPresent history caller) }
+        requires known { HasSeen pass.old (λ history. is_known history.portfolio.names (Ask asked) ≡ true) }
+        ensures { IsStep pass.old (Asks caller asked result) pass.new }
+    {
+        let mut held = self.turn.take(rt, pass);
+        let answer = held.get_mut().ask(caller, asked);
+        self.turn.give(pass, held);
+        answer
+    }
+
+    /// Hands out the evaluation that is next, as `Board::claim` does.
+    pub fn claim<R: Wait>(&self, rt: &R, pass: &mut DeskPass) -> Result<Claim, NoMemory>
+        requires { IsFree self.now.id pass.old }
+        ensures { IsStep pass.old (ClaimsOrNot result) pass.new }
+    {
+        let mut held = self.turn.take(rt, pass);
+        let answer = held.get_mut().claim();
+        self.turn.give(pass, held);
+        answer
+    }
+
+    /// Takes an evaluation that was made of the history that the pass has seen: where it is claimed, it is the contract's result at
+    /// its version from here on; otherwise it is dropped.
+    pub fn finish<R: Wait>(&self, rt: &R, pass: &mut DeskPass, done: Done)
+        requires free { IsFree self.now.id pass.old }
+        requires done { HasSeen pass.old (λ history. IsOf history done) }
+        ensures { IsStep pass.old (Finishes done) pass.new }
+    {
+        let mut held = self.turn.take(rt, pass);
+        held.get_mut().finish(done);
+        self.turn.give(pass, held);
+    }
+
+    /// Gives the board up, for want of memory; a task that is handed in is dropped.
+    pub fn give_up<R: Wait>(&self, rt: &R, pass: &mut DeskPass, task: Option<Task>)
+        requires { IsFree self.now.id pass.old }
+        ensures { IsStep pass.old GivesUp pass.new }
+    {
+        drop(task);
+        let mut held = self.turn.take(rt, pass);
+        held.get_mut().give_up(None);
+        self.turn.give(pass, held);
+    }
+
+    /// Gives a caller the answer to the oldest of its asks that are open, once each contract that it asks for has a result.
+    pub fn collect<R: Wait>(
+        &self,
+        rt: &R,
+        pass: &mut DeskPass,
+        caller: u32,
+    ) -> Result<Collected, NoMemory>
+        requires free { IsFree self.now.id pass.old }
+        requires own { pass.old.number ≡ caller }
+        requires present { HasSeen pass.old (λ history. IsPresent history caller) }
+        requires asked { HasSeen pass.old (λ history. 0 < length (open_asks history caller)) }
+        ensures { IsStep pass.old (CollectsOrNot caller result) pass.new }
+    {
+        let mut held = self.turn.take(rt, pass);
+        let answer = held.get_mut().collect(caller);
+        self.turn.give(pass, held);
+        answer
+    }
+
+    /// A caller leaves, which has no open ask, unless the board was given up.
+    pub fn leave<R: Wait>(&self, rt: &R, pass: &mut DeskPass, caller: u32)
+        requires free { IsFree self.now.id pass.old }
+        requires own { pass.old.number ≡ caller }
+        requires present { HasSeen pass.old (λ history. IsPresent history caller) }
+        requires done { HasSeen pass.old (λ history. (open_asks history caller ≡ []) ⊎ (is_given_up history ≡ true)) }
+        ensures { IsStep pass.old (Leaves caller) pass.new }
+    {
+        let mut held = self.turn.take(rt, pass);
+        held.get_mut().leave(caller);
+        self.turn.give(pass, held);
+    }
+
+    /// Ends the desk, whose passes these all are, and answers the board.
+    pub fn close(self, passes: Vec<DeskPass>) -> Board
+        requires all { vec_len passes ≡ self.seats }
+        requires free { All (IsFree self.id) passes.items }
+        ensures begins { All (λ p. IsPrefix p.seen (list_of result)) passes.items }
+        ensures longest { Any (λ p. p.seen ≡ list_of result) passes.items }
+        ensures own { All (λ p. entries_of author_of p.number (list_of result) ≡ own_entries author_of p) passes.items }
+    {
+        let Desk { turn } = self;
+        turn.close(passes)
+    }
+}

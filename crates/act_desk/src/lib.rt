@@ -1,0 +1,7 @@
+//! The board under threads: callers and workers, each in a thread of its own, have it in turns, and each call is one step of
+//! one history.
+#![tactic(auto)]
+
+mod desk;
+
+pub use desk::{Desk, DeskPass, MOST_WORKERS};
