@@ -1,0 +1,13 @@
+use Rattle.std.proofs.Common.{arith}
+use Rattle.desk_cases.proofs.Playing.{keeps-asked, keeps-refused, plays-on}
+use Rattle.desk_cases.proofs.actor.Actor.ask.Goals as goal
+
+pub returns-in-Ok : goal.returns-in-Ok
+returns-in-Ok g c =
+    plays-on _ _ _ _ c.ask.ensures c.args.self.now c.note.new.self c.requires.plays c.note.ensures.number c.note.ensures.of 1 0 c.note.ensures.here (omega (arith, c.note.ensures.asks))
+    (λ f t call. keeps-asked c.args.self.now.number f t c.args.asked _ _ c.in-Ok.is call)
+
+pub returns-in-Err : goal.returns-in-Err
+returns-in-Err g c =
+    plays-on _ _ _ _ c.ask.ensures c.args.self.now c.fail.new.self c.requires.plays c.fail.ensures.number c.fail.ensures.of 0 0 c.fail.ensures.here (omega (arith, c.fail.ensures.asks))
+    (λ f t call. keeps-refused c.args.self.now.number f t c.args.asked _ _ c.in-Err.is call)
