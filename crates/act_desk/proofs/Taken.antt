@@ -39,13 +39,13 @@ goes-on k before after adds = (added adds.mark, ap list_of adds.after_is ∙ lis
 
 pub step-made : (Call : History → History → Type 0) (old new : Standing Entry) (found after : History)
     → old.holds ≡ false → IsPrefix old.seen (list_of found) → entries_of author_of old.number (list_of found) ≡ own_entries author_of old
-    → new ≡ record old { seen = list_of after; turns = old.turns + 1; holds = false }
+    → new ≡ record old { seen = list_of after; came = list_of found; turns = old.turns + 1; holds = false }
     → Adds old.number found after → Call found after → IsStep old Call new
 step-made Call old new found after free begins own is adds call =
     let seen : list_of after ≡ list_of found ++ added adds.mark = ap list_of adds.after_is ∙ list-next found adds.mark in
-    let pass : new ≡ record old { seen = list_of found ++ added adds.mark; turns = old.turns + 1 } =
-    is ∙ (ap (λ (xs : List Entry). record old { seen = xs; turns = old.turns + 1; holds = false }) seen
-    ∙ ap (λ b. record old { seen = list_of found ++ added adds.mark; turns = old.turns + 1; holds = b }) (sym free)) in
+    let pass : new ≡ record old { seen = list_of found ++ added adds.mark; came = list_of found; turns = old.turns + 1 } =
+    is ∙ (ap (λ (xs : List Entry). record old { seen = xs; came = list_of found; turns = old.turns + 1; holds = false }) seen
+    ∙ ap (λ b. record old { seen = list_of found ++ added adds.mark; came = list_of found; turns = old.turns + 1; holds = b }) (sym free)) in
     record {
       found = found;
       mark = adds.mark;
@@ -62,7 +62,7 @@ pub record IsTurn (old taken : Standing Entry) (found lent : History) : Type 0 w
   pub free : old.holds ≡ false
   pub begins : IsPrefix old.seen (list_of found)
   pub own : entries_of author_of old.number (list_of found) ≡ own_entries author_of old
-  pub pass : taken ≡ record old { seen = list_of found; turns = old.turns + 1; holds = true }
+  pub pass : taken ≡ record old { seen = list_of found; came = list_of found; turns = old.turns + 1; holds = true }
   pub value : lent ≡ found
 
 module _ (old taken : Standing Entry) (found lent : History) (is : IsTurn old taken found lent) where

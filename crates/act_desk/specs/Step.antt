@@ -38,5 +38,5 @@ pub record IsStep (old : Standing Entry) (Call : History → History → Type 0)
   pub mark : Option Mark
   pub begins : IsPrefix old.seen (list_of found)
   pub call : Call found (and_maybe found mark)
-  pub pass : new ≡ record old { seen = list_of found ++ added mark; turns = old.turns + 1 }
+  pub pass : new ≡ record old { seen = list_of found ++ added mark; came = list_of found; turns = old.turns + 1 }
   pub own : own_entries author_of new ≡ own_entries author_of old ++ entries_of author_of old.number (added mark)

@@ -84,17 +84,15 @@ fn string_len(inside: &[u8]) -> usize
     ensures length { result ≡ string_len inside.now }
     ensures within { result ≤ length inside.now }
 {
-    let mut escaped = false;
-    for (place, byte) in inside.iter().enumerate() {
-        if escaped {
-            escaped = false;
-        } else if *byte == b'"' {
-            return place + 1;
-        } else {
-            escaped = *byte == b'\\';
+    let mut len = 0;
+    'bytes: while len < inside.len() {
+        match inside[len] {
+            b'"' => return len + 1,
+            b'\\' => len = (len + 2).min(inside.len()),
+            _ => len += 1,
         }
     }
-    inside.len()
+    len
 }
 
 /// How many bytes of numbers a text begins with.

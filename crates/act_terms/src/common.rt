@@ -7,6 +7,7 @@ use crate::choices::choice_in;
 use crate::currencies::{code_where, read_currencies};
 use crate::fault::TermsFault;
 use crate::fields::{needed, needed_day, optional, optional_day, optional_decimal};
+use crate::used::has_trade_terms;
 use act_date::{Calendar, Convention, Day, MonthRule};
 use act_model::{Common, ContractRole, ContractType, Names};
 use act_num::Fixed;
@@ -121,7 +122,7 @@ pub(crate) fn may_trade(contract_type: ContractType) -> bool
 fn read_trades(contract_type: ContractType, contract: &Value) -> Result<Trades, TermsFault>
     ensures { result ≡ trades_of contract_type (view contract.now) }
 {
-    if may_trade(contract_type) {
+    if may_trade(contract_type) && has_trade_terms(contract) {
         return given_trades(contract);
     }
     Ok(Trades {

@@ -5,7 +5,7 @@ ghost use Rattle.act_terms.specs.declared.fault.TermsFault.TheVariants as faults
 
 use act_json::JsonFault;
 use act_num::NoMemory;
-use std::alloc::AllocFailed;
+use std::alloc::{AllocError, AllocFailed};
 use std::marker::Model;
 
 /// Why a term is refused. The numbers are those of a portfolio's refusals.
@@ -69,6 +69,14 @@ impl<T: Drop> From<AllocFailed<T>> for TermsFault {
     ghost from_gives = { λ _ fault. fault ≡ faults.NoMemory };
 
     fn from(_error: AllocFailed<T>) -> TermsFault {
+        TermsFault::NoMemory
+    }
+}
+
+impl From<AllocError> for TermsFault {
+    ghost from_gives = { λ _ fault. fault ≡ faults.NoMemory };
+
+    fn from(_error: AllocError) -> TermsFault {
         TermsFault::NoMemory
     }
 }

@@ -20,7 +20,7 @@ use std::alloc::Global;
 pub fn in_portfolio_order(alloc: Global, contracts: &[Value]) -> Result<Vec<&Value>, NoMemory>
     ensures { IfOk result (λ order. map (λ c. view c.now) order.items ≡ in_portfolio_order (map view contracts.now)) }
 {
-    let mut order = Vec::new(alloc);
+    let mut order = Vec::with_capacity(alloc, contracts.len())?;
     for contract in contracts {
         add_contract(contract, &mut order)?;
     }

@@ -89,7 +89,7 @@ fn read_elements(
     ensures refused { IfErr result (λ fault. fault ≢ TermsFault.NoMemory
         → references_from names.old (map view elements.now) ≡ Err fault) }
 {
-    let mut references = Vec::new(alloc);
+    let mut references = Vec::with_capacity(alloc, elements.len())?;
     for element in elements {
         let reference = read_reference(alloc, element, names)?;
         references.push(reference)?;

@@ -1,6 +1,7 @@
 //! Which names of a contract's object are terms of its type.
-ghost use Rattle.std.specs.Prelude.{◌≡◌, ◌∷◌, ◌++◌, [], IfOk, OnOk, map, string_bytes};
+ghost use Rattle.std.specs.Prelude.{◌≡◌, ◌∷◌, ◌++◌, [], Ok, false, IfOk, OnOk, map, string_bytes};
 ghost use Rattle.serde_json.specs.View.{view};
+ghost use Rattle.act_terms.specs.Common.{given_trades_of, no_trades};
 ghost use Rattle.act_terms.specs.Used.{common_terms, is_among, is_term_of, own_terms, settlement_terms, shared_terms, trade_terms, unused_names};
 
 use crate::common::may_trade;
@@ -208,6 +209,22 @@ fn is_trade_term(contract_type: ContractType, name: &str) -> bool
     ensures { result ≡ is_among (trade_terms contract_type) name.now }
 {
     may_trade(contract_type) && is_among(&TRADE_TERMS, name)
+}
+
+/// Whether a contract has one of the names of purchase and termination, or is no object. An object without them gives neither.
+#[tactic(auto, using(crate::proofs::Trades::not_traded))]
+pub(crate) fn has_trade_terms(contract: &Value) -> bool
+    ensures { result ≡ false → given_trades_of (view contract.now) ≡ Ok no_trades }
+{
+    let Some(object) = contract.as_object() else {
+        return true;
+    };
+    for (name, _) in object {
+        if is_among(&TRADE_TERMS, name.as_str()) {
+            return true;
+        }
+    }
+    false
 }
 
 /// Whether a name is a term of that type beside those that it shares with others.

@@ -8,18 +8,19 @@ pub record Identity : Type 0 where
   pub id : TableId
   pub seats : ℕ
 
--- what a pass holds: of which turn it is, its number, the list that it has seen, how many turns it has had, and whether it holds the value
+-- what a pass holds: of which turn it is, its number, the list that it has seen, the one that it had seen as its last turn came, how many turns it has had, and whether it holds the value
 pub record Standing (E : Type 0) : Type 0 where
   pub turn : TableId
   pub number : ℕ
   pub seen : List E
+  pub came : List E
   pub turns : ℕ
   pub holds : Bool
 
 module _ {E : Type 0} where
   -- a pass that has had no turn yet, and has seen the list xs
   abbrev pub first_standing : TableId → ℕ → List E → Standing E
-  first_standing id k xs = record { turn = id; number = k; seen = xs; turns = 0; holds = false }
+  first_standing id k xs = record { turn = id; number = k; seen = xs; came = xs; turns = 0; holds = false }
 
   -- the passes of a turn before any is taken: their numbers go from 1 on, and each has seen the list xs
   abbrev pub AreNumbered : TableId → List E → List (Standing E) → Type 0

@@ -18,11 +18,11 @@ module _ {E : Type 0} where
 
   -- the view, whose turn has come, and which has seen the list xs
   abbrev pub with_turn : View E → ℕ → List E → View E
-  with_turn v t xs = record { members = member (number_of v.members) xs ∷ []; stage = Has t; turns = v.turns + 1; given = v.given }
+  with_turn v t xs = record { members = member (number_of v.members) xs ∷ []; stage = Has t; came = xs; turns = v.turns + 1; given = v.given }
 
   -- the view, which has passed the turn on, and has seen the list xs
   abbrev pub without_turn : View E → List E → View E
-  without_turn v xs = record { members = member (number_of v.members) xs ∷ []; stage = Away; turns = v.turns; given = v.given }
+  without_turn v xs = record { members = member (number_of v.members) xs ∷ []; stage = Away; came = v.came; turns = v.turns; given = v.given }
 
   -- the number that is given next by the view that has the count
   abbrev pub next_number : View E → ℕ
@@ -34,7 +34,7 @@ module _ {E : Type 0} where
 
   -- the view that the number was given to, with the list that the giver has seen
   abbrev pub newcomer : View E → View E
-  newcomer v = record { members = member (next_number v) (seen_of v.members) ∷ []; stage = Away; turns = 0; given = None }
+  newcomer v = record { members = member (next_number v) (seen_of v.members) ∷ []; stage = Away; came = seen_of v.members; turns = 0; given = None }
 
 -- the count, where one of the two is one
 abbrev pub either_count : Option ℕ → Option ℕ → Option ℕ
@@ -44,11 +44,11 @@ either_count (Some n) d = Some n
 module _ {E : Type 0} where
   -- the view v, which also stands for what w stands for
   abbrev pub joint_view : View E → View E → View E
-  joint_view v w = record { members = w.members ++ v.members; stage = v.stage; turns = v.turns; given = either_count v.given w.given }
+  joint_view v w = record { members = w.members ++ v.members; stage = v.stage; came = v.came; turns = v.turns; given = either_count v.given w.given }
 
 -- the view that is left of w then
 abbrev pub spent_view : {E : Type 0} → View E
-spent_view = record { members = []; stage = Away; turns = 0; given = None }
+spent_view = record { members = []; stage = Away; came = []; turns = 0; given = None }
 
 module _ {K E : Type 0} where
   -- a ticket was drawn, of which the number found is the low part

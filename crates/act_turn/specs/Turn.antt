@@ -164,11 +164,11 @@ pub record IsPass {K E : Type 0} (me : Me (Option K) (View E)) : Type 0 where
 module _ {E : Type 0} where
   -- the view of number 1, which has seen these entries
   abbrev pub opener : List E → View E
-  opener xs = record { members = member 1 xs ∷ []; stage = Away; turns = 0; given = Some 1 }
+  opener xs = record { members = member 1 xs ∷ []; stage = Away; came = xs; turns = 0; given = Some 1 }
 
   -- what contracts see of a pass
   abbrev pub standing_of : TableId → View E → Standing E
-  standing_of t v = record { turn = t; number = number_of v.members; seen = seen_of v.members; turns = v.turns; holds = has_turn v.stage }
+  standing_of t v = record { turn = t; number = number_of v.members; seen = seen_of v.members; came = v.came; turns = v.turns; holds = has_turn v.stage }
 
   abbrev pub member_of : Standing E → Member E
   member_of pass = member pass.number pass.seen

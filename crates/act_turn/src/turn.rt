@@ -164,7 +164,7 @@ impl<K: Kept> Turn<K> {
         requires free { pass.old.holds ≡ false }
         ensures begins { IsPrefix pass.old.seen (K.journal result) }
         ensures own { entries_of K.author pass.old.number (K.journal result) ≡ own_entries K.author pass.old }
-        ensures pass { pass.new ≡ record pass.old { seen = K.journal result; turns = pass.old.turns + 1; holds = true } }
+        ensures pass { pass.new ≡ record pass.old { seen = K.journal result; came = K.journal result; turns = pass.old.turns + 1; holds = true } }
     {
         let shared = &self.table.shared;
         let ticket = shared.fetch_add::<Draw>(&mut pass.seat, TICKET, 1);

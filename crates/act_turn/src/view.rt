@@ -23,6 +23,8 @@ pub(crate) struct View<E> {
     /// What it stands for: its own pass, and those that ended and were joined to it.
     pub members: LinkedList<Member<E>>,
     pub stage: Stage,
+    /// The list that it has seen as its last turn came.
+    pub came: LinkedList<E>,
     /// How many turns it has had.
     pub turns: u64,
     /// How many numbers were given: in one seat alone.

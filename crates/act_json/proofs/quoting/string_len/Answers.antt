@@ -1,25 +1,18 @@
-use Rattle.std.proofs.Common.{◌≡◌, ℕ, ◌+◌, ◌<◌, nat_eq, Bool, true, false, List, length, drop, drop-cons, add-one, get_or, if◌then◌else◌, ◌∙◌, arith, rules, tests}
-use Rattle.act_json.specs.Quoting.{escaped_len, string_len}
+use Rattle.std.proofs.Common.{◌≡◌, ◌+◌, ◌<◌, ℕ, zero, suc, List, [], ◌∷◌, min, length, drop, drop-drop, get_or, refl, ◌∙◌, arith, rules, tests}
+use Rattle.std.proofs.lemmas.List.{drop_min}
+use Rattle.act_json.specs.Quoting.{string_len}
 use Rattle.act_json.proofs.quoting.string_len.Goals as goal
-use Rattle.act_json.proofs.quoting.string_len.Goals.{then-escaped, else-escaped+else-byte-eq34}
 
--- the length of a string that has been passed up to a place, by whether a backslash stands before it
-abbrev len_from : Bool → List ℕ → ℕ → ℕ
-len_from escaped inside place = place + (if escaped then escaped_len (drop place inside) else string_len (drop place inside))
+-- a string that has been passed up to a backslash, with the byte behind it
+behind_backslash : (inside : List ℕ) (len : ℕ) → len < length inside → get_or inside len 0 ≡ 92
+    → len + string_len (drop len inside) ≡ min (len + 2) (length inside) + string_len (drop 2 (drop len inside))
+behind_backslash [] len more is = absurd (omega arith)
+behind_backslash (b ∷ []) zero more is = rw is (omega arith)
+behind_backslash (b ∷ c ∷ rest) zero more is = rw is (omega arith)
+behind_backslash (b ∷ rest) (suc len) more is = omega (arith, behind_backslash rest len (omega arith) is)
 
-behind_backslash : (inside : List ℕ) (place : ℕ) (was now : Bool) → place < length inside → was ≡ true → now ≡ false → len_from was inside place ≡ len_from now inside (place + 1)
-behind_backslash inside place true false more w n = rw (drop-cons inside place 0 more, add-one place) (omega arith)
-behind_backslash inside place true true more w n = cc
-behind_backslash inside place false now more w n = cc
-
-goes_on : (inside : List ℕ) (place : ℕ) (was now : Bool) → place < length inside → was ≡ false → nat_eq (get_or inside place 0) 34 ≡ false → now ≡ nat_eq (get_or inside place 0) 92 → len_from was inside place ≡ len_from now inside (place + 1)
-goes_on inside place true now more w plain n = cc
-goes_on inside place false now more w plain n = rw (drop-cons inside place 0 more, add-one place, plain, n) (omega arith)
-
-pub loop-place-preserved : goal.loop-place-preserved
-loop-place-preserved c =
-    c.loop-place.invariant
-    ∙ elim c.if-escaped.branch [
-      | then-escaped w ↦ behind_backslash c.args.inside.now c.loop-place.place _ _ c.loop-place-test.true w.if-escaped.true w.escaped-is
-      | else-escaped+else-byte-eq34 w ↦ goes_on c.args.inside.now c.loop-place.place _ _ c.loop-place-test.true w.if-escaped.false (search (rules, tests)) w.escaped-is
-    ]
+pub bytes-preserved-in-92 : goal.bytes-preserved-in-92
+bytes-preserved-in-92 c = record {
+  within = search (rules, tests);
+  passed = c.bytes.invariant.passed ∙ behind_backslash c.args.inside.now c.bytes.len c.bytes-test.true (search (rules, tests)) ∙ rw (c.min-len.ensures, drop_min (c.bytes.len + 2) c.args.inside.now, drop-drop 2 c.bytes.len c.args.inside.now) refl;
+}

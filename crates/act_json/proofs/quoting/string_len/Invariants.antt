@@ -1,7 +1,12 @@
-use Rattle.std.proofs.Common.{◌≡◌, ◌+◌, drop, if◌then◌else◌}
-use Rattle.act_json.specs.Quoting.{escaped_len, string_len}
+use Rattle.std.proofs.Common.{◌≡◌, ◌≤◌, ◌+◌, ◌-◌, length, drop}
+use Rattle.act_json.specs.Quoting.{string_len}
 use Rattle.act_json.proofs.quoting.string_len.Given as goal
 
-abbrev pub invariant-loop-place : goal.invariant-loop-place
-invariant-loop-place l =
-    string_len l.inside ≡ l.place + (if l.escaped then escaped_len (drop l.place l.inside) else string_len (drop l.place l.inside))
+abbrev pub invariant-bytes : goal.invariant-bytes
+invariant-bytes l = record {
+  within : l.len ≤ length l.inside;
+  passed : string_len l.inside ≡ l.len + string_len (drop l.len l.inside);
+}
+
+abbrev pub decreases-bytes : goal.decreases-bytes
+decreases-bytes l = length l.inside - l.len

@@ -9,7 +9,7 @@ use Rattle.act_terms.proofs.structure.read_elements.Goals as goal
 pub returns-in_err-reference-clause-refused : goal.returns-in_err-reference-clause-refused
 returns-in_err-reference-clause-refused c =
     let here = ap (map view) (next_of c.args.elements.now c.loop-element.element-index c.element-item.result c.loop-element-test.true c.element-item.is) in
-    let is : c.from_residual.result ≡ Err c.in_err-reference.field-0.0 = given_up _ _ c.from_residual.ensures.1 in
+    let is : c.from_residual-in_err-reference.result ≡ Err c.in_err-reference.field-0.0 = given_up _ _ c.from_residual-in_err-reference.ensures.1 in
     rw is (λ read. one_refused _ _ _ _ _ _ _ _ c.loop-element.invariant here (c.in_err-reference.ensures.refused read))
 
 pub loop-element-preserved : goal.loop-element-preserved

@@ -1,4 +1,4 @@
-use Rattle.std.proofs.Common.{rules, ap, sym, map, ◌∙◌, ◌∷◌, [], ◌++◌, append_assoc, Some}
+use Rattle.std.proofs.Common.{◌≡◌, rules, ap, sym, map, ◌∙◌, ◌∷◌, [], ◌++◌, append_assoc, Some}
 use Rattle.std.proofs.lemmas.List.{map-append}
 use Rattle.std.proofs.lemmas.List.Elements.{All-pop}
 use Rattle.act_turn.specs.Standing.{IsFree}
@@ -17,3 +17,18 @@ loop-pass-preserved g c = let popped = c.in-Some.ensures.items in let now = c.jo
   passes = ap (λ m. map member_of rest ++ m.0.members) now ∙ (ap (λ l. map member_of rest ++ (l ++ was)) c.into_seat.ensures.view.1
       ∙ (sym (append_assoc (map member_of rest) (member_of c.in-Some.pass ∷ []) was) ∙ (ap (λ l. l ++ was) (sym (ap (map member_of) popped ∙ map-append member_of rest (c.in-Some.pass ∷ []))) ∙ c.loop-pass.invariant.passes)));
 }
+
+pub into_seat-requires : goal.into_seat-requires
+into_seat-requires g c =
+    (All-pop (IsFree c.args.self.now.id) c.loop-pass.passes.items c.pop-in-loop-pass.new.self.items (Some c.in-Some.pass) c.in-Some.ensures.items c.loop-pass.invariant.free).1.1
+
+pub loop-pass-init : goal.loop-pass-init
+loop-pass-init g c =
+    let rest = c.pop.new.self.items in
+    let popped : c.args.passes.items ≡ rest ++ c.unwrap.result ∷ [] = search rules in
+    record {
+      seat = search rules;
+      away = search rules;
+      free = (All-pop (IsFree c.args.self.now.id) c.args.passes.items rest (Some c.unwrap.result) popped c.requires.free).0;
+      passes = ap (λ l. map member_of rest ++ l) c.into_seat-all.ensures.view.1 ∙ sym (ap (map member_of) popped ∙ map-append member_of rest (c.unwrap.result ∷ []));
+    }
