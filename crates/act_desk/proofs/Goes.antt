@@ -47,6 +47,20 @@ parts : (history found : History) (rest : List Entry) → list_of history ++ res
     → (found.portfolio ≡ history.portfolio) × (found.quotas ≡ history.quotas) × (map entry.Mark history.marks ++ rest ≡ map entry.Mark found.marks)
 parts history found rest same = (cc, cc, cc)
 
+-- a history is what its list says
+pub same-history : (history found : History) → list_of history ≡ list_of found → history ≡ found
+same-history history found same =
+    let of-parts = parts history found [] (append-nil (list_of history) ∙ same) in
+    let more = split history.marks found.marks [] of-parts.2 in
+    let marks : history.marks ≡ found.marks = sym (append-nil history.marks) ∙ (ap (λ (ms : List Mark). history.marks ++ ms) (none more.0 more.2) ∙ sym more.1) in
+    ap (λ p. record { portfolio = p; quotas = history.quotas; marks = history.marks }) (sym of-parts.0)
+    ∙ (ap (λ (q : List ℕ). record { portfolio = found.portfolio; quotas = q; marks = history.marks }) (sym of-parts.1)
+    ∙ ap (λ (ms : List Mark). record { portfolio = found.portfolio; quotas = found.quotas; marks = ms }) marks)
+  where
+    none : (ms : List Mark) → [] ≡ map entry.Mark ms → [] ≡ ms
+    none [] same = refl
+    none (m ∷ ms) same = absurd (cc)
+
 module _ (k : ℕ) (history found : History) where
   -- what was added has no entries of k
   none-added : (rest : List Entry) → list_of history ++ rest ≡ list_of found → entries_of author_of k (list_of found) ≡ entries_of author_of k (list_of history) → entries_of author_of k rest ≡ []

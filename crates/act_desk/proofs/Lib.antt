@@ -1,5 +1,9 @@
 pub mod Adds
+pub mod Amid
 pub mod Goes
+pub mod Making
 pub mod Own
 pub mod Stays
 pub mod Taken
+pub mod Watching
+pub mod Way

@@ -12,7 +12,7 @@ use Rattle.act_model.specs.declared.journal.Step.TheVariants as step
 use Rattle.act_model.specs.declared.observed.Obs.{Obs}
 use Rattle.act_board.specs.Calls.{IsOf}
 use Rattle.act_board.specs.Entries.{caller_of}
-use Rattle.act_board.specs.History.{History, IsPresent, and_then, asks_by, collected_by, entries_of as book, has_left, is_collect_by, is_give_up, is_given_up, is_leave_by, item_of, journal_of, open_asks}
+use Rattle.act_board.specs.History.{History, IsPresent, and_then, appended_by, asks_by, collected_by, entries_of as book, has_left, is_append_by, is_collect_by, is_give_up, is_given_up, is_leave_by, item_of, journal_of, open_asks}
 use Rattle.act_board.specs.Work.{Work, version}
 use Rattle.act_board.specs.declared.mark.Mark.{Mark}
 use Rattle.act_board.specs.declared.mark.Mark.TheVariants as mark
@@ -62,6 +62,12 @@ module _ (k : ℕ) where
       let first = first-other k m ms none in
       asked-stays (and_then history m) ms first.1 ∙ (spares history m k first.0).asks
 
+  pub appended-stays : (history : History) (ms : List Mark) → NoneBy k ms → appended_by (goes_on history ms) k ≡ appended_by history k
+  appended-stays history [] none = refl
+  appended-stays history (m ∷ ms) none =
+      let first = first-other k m ms none in
+      appended-stays (and_then history m) ms first.1 ∙ count-not (is_append_by k) history.marks m (spares history m k first.0).append
+
   pub collected-stays : (history : History) (ms : List Mark) → NoneBy k ms → collected_by (goes_on history ms) k ≡ collected_by history k
   collected-stays history [] none = refl
   collected-stays history (m ∷ ms) none =
@@ -89,6 +95,12 @@ module _ (k : ℕ) where
     pub collects-stay : collected_by found k ≡ collected_by history k
     collects-stay = at-found (λ (h : History). collected_by h k ≡ collected_by history k) (collected-stays history beside.marks beside.others)
 
+    pub appends-stay : appended_by found k ≡ appended_by history k
+    appends-stay = at-found (λ (h : History). appended_by h k ≡ appended_by history k) (appended-stays history beside.marks beside.others)
+
+    pub quotas-stay : found.quotas ≡ history.quotas
+    quotas-stay = at-found (λ (h : History). h.quotas ≡ history.quotas) (ap (λ (h : History). h.quotas) marked)
+
     pub open-stays : open_asks found k ≡ open_asks history k
     open-stays = ap (λ (n : ℕ). drop n (asks_by found k)) collects-stay ∙ ap (λ (asks : List Asking). drop (collected_by history k) asks) asks-stay
 
@@ -99,7 +111,7 @@ module _ (k : ℕ) where
     given_up-stays so = at-found (λ (h : History). is_given_up h ≡ true) (subst (λ (h : History). is_given_up h ≡ true) (sym marked) (list_any-append is_give_up history.marks beside.marks ∙ rw so refl))
 
     -- the book goes on
-    book-goes : (rest : List Obs) × (book found ≡ book history ++ rest)
+    pub book-goes : (rest : List Obs) × (book found ≡ book history ++ rest)
     book-goes =
         let items : journal_of (record { portfolio = history.portfolio; quotas = history.quotas; marks = history.marks ++ beside.marks }) ≡ journal_of history ++ filter_map item_of beside.marks =
         filter_map-append item_of history.marks beside.marks in

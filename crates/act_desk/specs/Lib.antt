@@ -1,2 +1,4 @@
 pub mod Calls
+pub mod Desk
+pub mod Making
 pub mod Step

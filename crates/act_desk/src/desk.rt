@@ -13,6 +13,7 @@ ghost use Rattle.act_board.specs.History.{IsPresent, is_given_up, open_asks};
 ghost use Rattle.act_desk.specs.Calls.{Appends, Asks, ClaimsOrNot, CollectsOrNot, Finishes, GivesUp, Leaves};
 ghost use Rattle.act_desk.specs.Step.{HasSeen, IsStep, opening};
 
+use crate::bell::Bell;
 use act_board::{AppendFault, AskFault, Board, Claim, Collected, Done, MOST_CALLERS, Task};
 use act_model::{Asked, MOST_ENTRIES, Obs};
 use act_num::NoMemory;
@@ -30,17 +31,23 @@ pub const MOST_WORKERS: u32 = 64;
 pub type DeskPass = Pass<Board>;
 
 /// A board that callers and workers share, each in a thread of its own: whoever has the turn has the board. Contracts see which
-/// desk it is, and how many passes it has.
+/// desk it is, how many passes it has, and of which portfolio.
 pub struct Desk {
     turn: Turn<Board>,
+    pub(crate) portfolio: Arc<Portfolio, Global>,
+    /// Rings where an evaluation may be claimed that couldn't be before, or none will come.
+    pub(crate) tasks: Bell,
+    /// Rings where an answer may be ready that wasn't, or none will come.
+    pub(crate) results: Bell,
 }
 
 impl Model for Desk {
-    ghost use Rattle.act_turn.specs.Standing.{Identity};
+    ghost use Rattle.std.specs.Arc.{arc_value};
+    ghost use Rattle.act_desk.specs.Desk as desk;
 
-    ghost Value = { Identity };
+    ghost Value = { desk.Desk };
 
-    ghost view = { λ d. d.turn };
+    ghost view = { λ d. record { id = d.turn.id; seats = d.turn.seats; portfolio = arc_value d.portfolio } };
 }
 
 impl Desk {
@@ -60,11 +67,21 @@ impl Desk {
         ensures seats { IfOk result (λ r. (r.0.seats ≡ length quotas.now + workers) × (vec_len r.1 ≡ length quotas.now + workers)) }
         ensures passes { IfOk result (λ r. AreNumbered r.0.id (list_of (opening (arc_value portfolio) quotas.now)) r.1.items) }
         ensures free { IfOk result (λ r. All (IsFree r.0.id) r.1.items) }
+        ensures portfolio { IfOk result (λ r. r.0.portfolio ≡ arc_value portfolio) }
     {
         let seats = quotas.len() as u32 + workers;
-        let board = Board::new(alloc, portfolio, quotas)?;
+        let shared = Arc::try_clone(&portfolio)?;
+        let board = Board::new(alloc, shared, quotas)?;
         match Turn::new(alloc, board, seats) {
-            Ok((turn, passes)) => Ok((Desk { turn }, passes)),
+            Ok((turn, passes)) => {
+                let desk = Desk {
+                    turn,
+                    portfolio,
+                    tasks: Bell::new(),
+                    results: Bell::new(),
+                };
+                Ok((desk, passes))
+            }
             Err(NewFault { value: _ }) => Err(NoMemory),
         }
     }
@@ -106,6 +123,7 @@ impl Desk {
         let mut held = self.turn.take(rt, pass);
         let answer = held.get_mut().ask(caller, asked);
         self.turn.give(pass, held);
+        self.tasks.ring_one();
         answer
     }
 
@@ -130,6 +148,8 @@ impl Desk {
         let mut held = self.turn.take(rt, pass);
         held.get_mut().finish(done);
         self.turn.give(pass, held);
+        self.tasks.ring_one();
+        self.results.ring_all();
     }
 
     /// Gives the board up, for want of memory; a task that is handed in is dropped.
@@ -141,6 +161,8 @@ impl Desk {
         let mut held = self.turn.take(rt, pass);
         held.get_mut().give_up(None);
         self.turn.give(pass, held);
+        self.tasks.ring_all();
+        self.results.ring_all();
     }
 
     /// Gives a caller the answer to the oldest of its asks that are open, once each contract that it asks for has a result.
@@ -173,6 +195,7 @@ impl Desk {
         let mut held = self.turn.take(rt, pass);
         held.get_mut().leave(caller);
         self.turn.give(pass, held);
+        self.tasks.ring_all();
     }
 
     /// Ends the desk, whose passes these all are, and answers the board.
@@ -183,7 +206,15 @@ impl Desk {
         ensures longest { Any (λ p. p.seen ≡ list_of result) passes.items }
         ensures own { All (λ p. entries_of author_of p.number (list_of result) ≡ own_entries author_of p) passes.items }
     {
-        let Desk { turn } = self;
+        let Desk {
+            turn,
+            portfolio,
+            tasks,
+            results,
+        } = self;
+        drop(portfolio);
+        drop(tasks);
+        drop(results);
         turn.close(passes)
     }
 }

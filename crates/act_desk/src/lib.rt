@@ -2,6 +2,10 @@
 //! one history.
 #![tactic(auto)]
 
+mod bell;
+mod caller;
 mod desk;
+mod worker;
+mod working;
 
 pub use desk::{Desk, DeskPass, MOST_WORKERS};

@@ -1,18 +1,18 @@
 -- What asks name, and what they weigh.
-use Rattle.std.proofs.Common.{◌≡◌, ℕ, zero, suc, true, List, [], ◌∷◌, length, Option, None, Some, IfSome, refl, sym, ◌∙◌, arith}
-use Rattle.std.specs.List.{All}
+use Rattle.std.proofs.Common.{◌≡◌, ℕ, zero, suc, ◌≤◌, true, cond, List, [], ◌∷◌, length, Option, None, Some, IfSome, IsSomeAnd, refl, sym, arith}
+use Rattle.std.specs.List.{All, count_by, sum_by}
+use Rattle.std.proofs.lemmas.List.Sums.{sum_by-cons}
 use Rattle.act_model.specs.Names.{NameLists}
 use Rattle.act_model.specs.declared.journal.Asked.TheVariants.{All as EachOne, One}
 use Rattle.act_model.specs.declared.journal.Line.{Line}
 use Rattle.act_model.specs.declared.journal.Step.{Step}
 use Rattle.act_model.specs.declared.journal.Step.TheVariants.{Append, Ask}
+use Rattle.act_model.specs.declared.observed.Obs.TheVariants.{Event, Rate}
 use Rattle.act_portfolio.specs.Reading.{Accepted}
 use Rattle.act_script.specs.Asks.{AsksBelow, is_below}
 use Rattle.act_script.specs.Reading.{Script}
-use Rattle.act_model.specs.Journal.{is_known}
-use Rattle.act_top.specs.Halts.{refusal_of}
-use Rattle.act_top.specs.Output.{Outcome, eval_outcome, script_refused, too_much_asked}
-use Rattle.act_top.specs.declared.halt.Halt.{Halt}
+use Rattle.act_model.specs.Journal.{is_append, is_known}
+use Rattle.act_top.specs.Output.{Outcome, eval_outcome, is_event, script_refused, too_much_asked}
 
 -- a list of one
 pub all-one : {X : Type 0} (P : X → Type 0) (x : X) → P x → All P (x ∷ [])
@@ -29,14 +29,34 @@ pub asks-below : (names : NameLists) (count : ℕ) (lines : List Line) → lengt
 asks-below names count lines all known = λ k d within. known-below names count _ all (known k d within)
 
 -- a script whose asks weigh too much is refused
-pub eval-too-much : (portfolio : Accepted) (script : Script) (ask : ℕ × ℕ) → too_much_asked portfolio script.lines ≡ Some ask → eval_outcome portfolio script ≡ script_refused 5 ask.0 ask.1
+eval-by : (portfolio : Accepted) (script : Script) (outcome : Outcome) (much : Option (ℕ × ℕ)) → too_much_asked portfolio (script.lines ∷ []) ≡ much → IsSomeAnd much (λ ask. outcome ≡ script_refused 5 ask.0 ask.1) → eval_outcome portfolio script ≡ outcome
 unfolding eval_outcome
-eval-too-much portfolio script ask much = rw (much, eval_outcome) refl
+eval-by portfolio script outcome None is refused = absurd refused
+eval-by portfolio script outcome (Some ask) is refused = rw (is, refused, eval_outcome) refl
 
-pub eval-refused : (portfolio : Accepted) (script : Script) (ask : ℕ × ℕ) (halt : Halt) → too_much_asked portfolio script.lines ≡ Some ask → IfSome (refusal_of halt) (λ outcome. outcome ≡ script_refused 5 ask.0 ask.1)
-    → IfSome (refusal_of halt) (λ outcome. eval_outcome portfolio script ≡ outcome)
-eval-refused portfolio script ask halt much refused = by (refusal_of halt) refused
+pub eval-refused : (portfolio : Accepted) (script : Script) (refusal : Option Outcome) → IfSome refusal (λ outcome. IsSomeAnd (too_much_asked portfolio (script.lines ∷ [])) (λ ask. outcome ≡ script_refused 5 ask.0 ask.1))
+    → IfSome refusal (λ outcome. eval_outcome portfolio script ≡ outcome)
+eval-refused portfolio script None refused = tt
+eval-refused portfolio script (Some outcome) refused = eval-by portfolio script outcome _ refl refused
+
+-- ---- events
+
+-- an event entry is appended
+event-appends : (line : Line) → cond (is_event line) 1 0 ≤ cond (is_append line.step) 1 0
+event-appends line = by line.step refl
   where
-    by : (o : Option Outcome) → IfSome o (λ outcome. outcome ≡ script_refused 5 ask.0 ask.1) → IfSome o (λ outcome. eval_outcome portfolio script ≡ outcome)
-    by None is = tt
-    by (Some outcome) is = eval-too-much portfolio script ask much ∙ sym is
+    by : (step : Step) → line.step ≡ step → cond (is_event line) 1 0 ≤ cond (is_append line.step) 1 0
+    by (Append (Rate code day value)) is = rw is (omega arith)
+    by (Append (Event contract kind day value)) is = rw is (omega arith)
+    by (Ask asked) is = rw is (omega arith)
+
+events-of-one : (lines : List Line) → count_by is_event lines ≤ count_by (λ (line : Line). is_append line.step) lines
+events-of-one [] = omega arith
+events-of-one (line ∷ lines) =
+    omega (arith, sum_by-cons (λ (l : Line). cond (is_event l) 1 0) line lines, sum_by-cons (λ (l : Line). cond (is_append l.step) 1 0) line lines, event-appends line, events-of-one lines)
+
+-- there are no more events than entries
+pub events-few : (lists : List (List Line)) → sum_by (count_by is_event) lists ≤ sum_by (count_by (λ (line : Line). is_append line.step)) lists
+events-few [] = omega arith
+events-few (lines ∷ lists) =
+    omega (arith, sum_by-cons (count_by is_event) lines lists, sum_by-cons (count_by (λ (line : Line). is_append line.step)) lines lists, events-of-one lines, events-few lists)

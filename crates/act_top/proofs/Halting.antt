@@ -16,7 +16,7 @@ use Rattle.act_top.specs.declared.top.Status.TheVariants.{Done}
 -- ---- an evaluation
 
 -- what asks of the allowed weight come to
-pub light-outcome : (portfolio : Accepted) (script : Script) → too_much_asked portfolio script.lines ≡ None → eval_outcome portfolio script ≡ evaluation_outcome (record { portfolio = portfolio; script = script })
+pub light-outcome : (portfolio : Accepted) (script : Script) → too_much_asked portfolio (script.lines ∷ []) ≡ None → eval_outcome portfolio script ≡ evaluation_outcome (record { portfolio = portfolio; script = script })
 unfolding eval_outcome
 light-outcome portfolio script light = rw (light, eval_outcome) refl
 
@@ -25,7 +25,7 @@ light-outcome portfolio script light = rw (light, eval_outcome) refl
 -- the same files tell the same script
 told-same : (content other : List ℕ → Option (List ℕ)) (portfolio : Accepted) (name : Option (List ℕ)) → ((n : List ℕ) → other n ≡ content n) → script_told other portfolio name ≡ script_told content portfolio name
 told-same content other portfolio None same = refl
-told-same content other portfolio (Some name) same = ap (option_map (script_read portfolio name)) (same name)
+told-same content other portfolio (Some name) same = ap (option_map (script_read portfolio 1 portfolio.names 0 name)) (same name)
 
 mapped : (told : Option (Result Script Outcome)) (portfolio : Accepted) (outcome : Outcome) → IfSome told (λ s. script_outcome portfolio s ≡ outcome) → IfSome (option_map (script_outcome portfolio) told) (λ wanted. wanted ≡ outcome)
 mapped None portfolio outcome is = tt

@@ -19,7 +19,7 @@ use Rattle.act_top.proofs.Outcomes.{IsOfJob, names-line, of-job}
 -- ---- the status of a stop
 
 -- a status that no stop has
-apart : (status : Status) → (status ≡ WriteFault → ⊥) → (status ≡ NoMemory → ⊥) → (stop : Stop) → status ≡ status_of (Err stop) → ⊥
+pub apart : (status : Status) → (status ≡ WriteFault → ⊥) → (status ≡ NoMemory → ⊥) → (stop : Stop) → status ≡ status_of (Err stop) → ⊥
 apart status not_failed not_lost SinkStop same = not_failed same
 apart status not_failed not_lost Memory same = not_lost same
 
@@ -34,7 +34,7 @@ same-stop Memory SinkStop same = cc
 same-stop Memory Memory same = refl
 
 -- nothing is a part of each text
-part-of-each : (text : List ℕ) (before after : Option (List ℕ)) → IsPart [] before after → IsPart text before after
+pub part-of-each : (text : List ℕ) (before after : Option (List ℕ)) → IsPart [] before after → IsPart text before after
 part-of-each text before after none = record { bytes = 0; put = rw (take-nil none.bytes) at none.put }
 
 -- of one stop
@@ -46,7 +46,7 @@ module _ (stop : Stop) (before after : Option (List ℕ)) (asked asks : Option (
   -- ---- a text
 
   -- a text with a status of its own is written in part where the status of the stop is answered
-  part-of : (outcome : Outcome) (written : Result Status Stop) → ((s : Stop) → outcome.status ≡ status_of (Err s) → ⊥) → IfOk written (λ status. status ≡ outcome.status) → Writes written outcome.text before after
+  pub part-of : (outcome : Outcome) (written : Result Status Stop) → ((s : Stop) → outcome.status ≡ status_of (Err s) → ⊥) → IfOk written (λ status. status ≡ outcome.status) → Writes written outcome.text before after
       → status_of written ≡ status_of (Err stop) → IsPartAt stop outcome.text before after
   part-of outcome (Ok status) other is text same = absurd (other stop (sym is ∙ same))
   part-of outcome (Err s) other is text same = subst (λ (t : Stop). IsPartAt t outcome.text before after) (same-stop s stop same) text

@@ -1,8 +1,8 @@
 -- What is read of a file whose bytes are told.
-use Rattle.std.proofs.Common.{◌≡◌, ℕ, ◌<◌, ◌≤◌, nat_lt, if◌then◌else◌, List, length, Option, None, Some, IfSome, Result, Err, refl, sym, [], ◌∷◌, subst}
+use Rattle.std.proofs.Common.{◌≡◌, ℕ, ◌<◌, ◌≤◌, nat_lt, if◌then◌else◌, List, length, Option, None, Some, IfSome, Result, Err, refl, sym, ap, [], ◌∷◌, subst}
 use Rattle.std.proofs.lemmas.Bool.{le-ltb, lt-ltb}
-use Rattle.act_top.specs.Halts.{Reads, refusal_of, AsksFile, OnUnread}
-use Rattle.act_top.specs.Output.{Outcome, long_outcome}
+use Rattle.act_top.specs.Halts.{Reads, RefusesAt, refusal_of, AsksFile, OnUnread}
+use Rattle.act_top.specs.Output.{Outcome, long_outcome, script_refused}
 use Rattle.act_model.specs.Limits.{most_bytes}
 use Rattle.act_top.specs.declared.halt.Halt.{Halt}
 use Rattle.act_io.specs.Fetch.{Fetches, names_after}
@@ -67,3 +67,21 @@ same-asks A B (halt.TooLong line) portfolio script name before after asked = ask
 same-asks A B (halt.PortfolioRefused line) portfolio script name before after asked = asked
 same-asks A B (halt.ScriptRefused line) portfolio script name before after asked = asked
 same-asks A B halt.Memory portfolio script name before after asked = asked
+
+-- ---- a script that is refused
+
+-- by such a line it is refused at its number
+pub refuses-at : (number script place : ℕ) (h : Halt) → 1 ≤ number → number ≤ 4 → IfSome (refusal_of h) (λ outcome. outcome ≡ script_refused number script place) → RefusesAt script h
+refuses-at number script place (halt.Unread line) some few is = tt
+refuses-at number script place (halt.TooLong line) some few is = tt
+refuses-at number script place (halt.PortfolioRefused line) some few is = tt
+refuses-at number script place (halt.ScriptRefused line) some few is = (number, place, some, few, ap (λ (o : Outcome). o.text) is)
+refuses-at number script place halt.Memory some few is = tt
+
+-- a file that wasn't read is no script that is refused
+pub never-refuses : (A : Type 0) (script : ℕ) (h : Halt) (name : List ℕ) (before after : Option (List (List ℕ))) → AsksFile {A = A} ⊥ ⊥ name (Err h) before after → RefusesAt script h
+never-refuses A script (halt.Unread line) name before after asked = tt
+never-refuses A script (halt.TooLong line) name before after asked = tt
+never-refuses A script (halt.PortfolioRefused line) name before after asked = tt
+never-refuses A script (halt.ScriptRefused line) name before after asked = absurd asked.0
+never-refuses A script halt.Memory name before after asked = tt

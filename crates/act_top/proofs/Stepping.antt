@@ -44,7 +44,8 @@ use Rattle.act_top.specs.Written.{IsPartAt}
 use Rattle.act_top.specs.declared.writing.Stop.{Stop}
 use Rattle.act_top.specs.declared.writing.Stop.TheVariants.{Memory}
 use Rattle.act_top.proofs.Texts.{left-part, written-nothing}
-use Rattle.act_top.proofs.Answering.{Answering, answering-append, answering-ask, answering-part, answers_from, answers_text, asks-at-ask, one-caller}
+use Rattle.act_top.specs.Ready.{answers_text}
+use Rattle.act_top.proofs.Answering.{Answering, answering-append, answering-ask, answering-part, answers_from, asks-at-ask, one-caller}
 use Rattle.act_top.proofs.Quiet.{none-lacks}
 use Rattle.act_top.proofs.Totals.{sum-filter, sum-none, sum-same}
 

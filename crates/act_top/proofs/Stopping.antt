@@ -133,7 +133,7 @@ pub sink-once : (written : Result Status Stop) (before now : ℕ) → now ≡ fa
 sink-once written before now is failed = is ∙ ap (λ (w : Result Status Stop). faults_after w before) failed
 
 -- a part of a text was written where writing stopped
-part-stopped : (written : Result Status Stop) (text : List ℕ) (before after : Option (List ℕ)) → (status_of written ≡ WriteFault) ⊎ (status_of written ≡ NoMemory) → IfOk written (λ s. s ≡ ReadFault) → Writes written text before after → IsPart text before after
+pub part-stopped : (written : Result Status Stop) (text : List ℕ) (before after : Option (List ℕ)) → (status_of written ≡ WriteFault) ⊎ (status_of written ≡ NoMemory) → IfOk written (λ s. s ≡ ReadFault) → Writes written text before after → IsPart text before after
 part-stopped (Ok s) text before after (inl stopped) is put = absurd (cc)
 part-stopped (Ok s) text before after (inr stopped) is put = absurd (cc)
 part-stopped (Err SinkStop) text before after stopped is put = record { bytes = put.bytes; put = put.put }

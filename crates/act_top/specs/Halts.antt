@@ -1,10 +1,10 @@
 -- What a command comes to that stops before it writes its text: a line in its place, and the names that were asked for. This profile's own.
-use Rattle.std.specs.Prelude.{◌≡◌, ◌<◌, ◌⊎◌, ℕ, List, [], ◌∷◌, length, Option, Some, None, IfSome, Result, Ok, Err, ⊤, Vec}
+use Rattle.std.specs.Prelude.{◌≡◌, ◌<◌, ◌≤◌, ◌⊎◌, ℕ, List, [], ◌∷◌, length, Option, Some, None, IfSome, Result, Ok, Err, ⊤, Vec}
 use Rattle.std.specs.declared.alloc.Global.{Global}
 use Rattle.act_io.specs.Faults.{next_count}
 use Rattle.act_top.specs.Asked.{Asks, AsksFirst, NamesFile}
 use Rattle.act_top.specs.Command.{CommandWords, files_of}
-use Rattle.act_top.specs.Output.{Outcome, long_outcome, read_outcome}
+use Rattle.act_top.specs.Output.{Outcome, long_outcome, read_outcome, script_refused}
 use Rattle.act_model.specs.Limits.{most_bytes}
 use Rattle.act_top.specs.declared.halt.Halt.{Halt}
 use Rattle.act_top.specs.declared.halt.Halt.TheVariants as halt
@@ -46,6 +46,22 @@ RefusesOnly portfolio script (halt.TooLong line) = ⊥
 RefusesOnly portfolio script (halt.PortfolioRefused line) = portfolio
 RefusesOnly portfolio script (halt.ScriptRefused line) = script
 RefusesOnly portfolio script halt.Memory = ⊤
+
+-- where a halt refuses a script it is the one of that number, for a line of its text
+abbrev pub RefusesAt : ℕ → Halt → Type 0
+RefusesAt script (halt.Unread line) = ⊤
+RefusesAt script (halt.TooLong line) = ⊤
+RefusesAt script (halt.PortfolioRefused line) = ⊤
+RefusesAt script (halt.ScriptRefused line) = (number : ℕ) × (place : ℕ) × (1 ≤ number) × (number ≤ 4) × (line.items ≡ (script_refused number script place).text)
+RefusesAt script halt.Memory = ⊤
+
+-- where it refuses a script, then for what the asks up to a line weigh
+abbrev pub RefusesWeight : Halt → Type 0
+RefusesWeight (halt.Unread line) = ⊤
+RefusesWeight (halt.TooLong line) = ⊤
+RefusesWeight (halt.PortfolioRefused line) = ⊤
+RefusesWeight (halt.ScriptRefused line) = (script : ℕ) × (place : ℕ) × (line.items ≡ (script_refused 5 script place).text)
+RefusesWeight halt.Memory = ⊤
 
 -- the count of faults of files, one higher where reading failed
 abbrev pub read_faults : {A : Type 0} → Result A Halt → ℕ → ℕ

@@ -1,9 +1,16 @@
 pub mod Asked
 pub mod Command
+pub mod Desk
+pub mod DeskAsked
+pub mod DeskCommand
+pub mod DeskWritten
 pub mod Driven
+pub mod Ending
 pub mod Halts
 pub mod Jobs
 pub mod Output
+pub mod Played
 pub mod Reached
 pub mod Ready
+pub mod Scripts
 pub mod Written

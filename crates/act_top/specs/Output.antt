@@ -1,6 +1,6 @@
 -- What the commands write, and the status that they end with. This profile's own.
 use Rattle.std.specs.Prelude.{◌≡◌, ℕ, ◌+◌, nat_lt, if◌then◌else◌, Bool, true, false, List, [], ◌∷◌, ◌++◌, length, map, codes, decimal, Option, Some, None, option_map, option_and_then, Result, Ok, Err, ⊤}
-use Rattle.std.specs.List.{count_by, flat_map, list_all, range_with_len, sum}
+use Rattle.std.specs.List.{count_by, flat_map, list_all, range_with_len, sum, sum_by}
 use Rattle.act_io.specs.Put.{written_after}
 use Rattle.act_model.specs.Limits.{most_bytes}
 use Rattle.act_model.specs.Name.{has_form}
@@ -81,13 +81,13 @@ abbrev pub script_refused : ℕ → ℕ → ℕ → Outcome
 script_refused number script line =
     record { status = ScriptRefused; text = line_of (codes "script") (decimal number ∷ decimal script ∷ decimal line ∷ []); rows = 0 }
 
--- the line of the one script's fault. Want of memory is no refusal, and no bytes are refused by it
-abbrev pub script_fault : ScriptFault → Outcome
-script_fault (NotLine line) = script_refused 1 1 line
-script_fault (UnknownName line) = script_refused 2 1 line
-script_fault (EventUnfit line) = script_refused 3 1 line
-script_fault (TooManyEntries line) = script_refused 4 1 line
-script_fault NoMemoryToRead = record { status = NoMemory; text = []; rows = 0 }
+-- the line of the fault of the script of that number. Want of memory is no refusal, and no bytes are refused by it
+abbrev pub script_fault : ℕ → ScriptFault → Outcome
+script_fault script (NotLine line) = script_refused 1 script line
+script_fault script (UnknownName line) = script_refused 2 script line
+script_fault script (EventUnfit line) = script_refused 3 script line
+script_fault script (TooManyEntries line) = script_refused 4 script line
+script_fault script NoMemoryToRead = record { status = NoMemory; text = []; rows = 0 }
 
 -- ---- files
 
@@ -106,21 +106,22 @@ portfolio_read name bytes = if nat_lt most_bytes (length bytes) then Err (long_o
 abbrev pub ask_for_all : NameLists → Script
 ask_for_all names = record { lines = record { step = Ask All; line = 1 } ∷ []; names = names; entries = 0 }
 
--- the script that bytes are, or the line that refuses them
-abbrev pub script_accepted : Accepted → List ℕ → Result Script Outcome
-script_accepted portfolio bytes = elim (script_of bytes portfolio.names portfolio.contracts.terms 0) [
+-- the script of that number that bytes are, read with the names and behind the entries of those before it, or the line that refuses them
+abbrev pub script_accepted : Accepted → ℕ → NameLists → ℕ → List ℕ → Result Script Outcome
+script_accepted portfolio number names entries bytes = elim (script_of bytes names portfolio.contracts.terms entries) [
   | Ok script ↦ Ok script
-  | Err fault ↦ Err (script_fault fault)
+  | Err fault ↦ Err (script_fault number fault)
 ]
 
--- the script that the bytes of a file are, or the line that refuses them
-unfoldable pub script_read : Accepted → List ℕ → List ℕ → Result Script Outcome
-script_read portfolio name bytes = if nat_lt most_bytes (length bytes) then Err (long_outcome name) else script_accepted portfolio bytes
+-- the same of the bytes of a file, which may be too long
+unfoldable pub script_read : Accepted → ℕ → NameLists → ℕ → List ℕ → List ℕ → Result Script Outcome
+script_read portfolio number names entries name bytes =
+    if nat_lt most_bytes (length bytes) then Err (long_outcome name) else script_accepted portfolio number names entries bytes
 
 -- the script of a command over the bytes of files, where they are told: that of the named file, or one ask for all contracts
 abbrev pub script_told : (List ℕ → Option (List ℕ)) → Accepted → Option (List ℕ) → Option (Result Script Outcome)
 script_told content portfolio None = Some (Ok (ask_for_all portfolio.names))
-script_told content portfolio (Some name) = option_map (script_read portfolio name) (content name)
+script_told content portfolio (Some name) = option_map (script_read portfolio 1 portfolio.names 0 name) (content name)
 
 -- ---- what asks weigh
 
@@ -138,19 +139,19 @@ is_event line = elim line.step [
   | Ask asked ↦ false
 ]
 
--- by what the asks of a script weigh
-abbrev pub tariff_of : Accepted → List Line → Tariff
-tariff_of portfolio lines =
+-- by what the asks of scripts weigh
+abbrev pub tariff_of : Accepted → List (List Line) → Tariff
+tariff_of portfolio scripts =
     record {
       weights = map (cone_sum portfolio.contracts) (numbers_of portfolio);
       all_weight = sum (map (cone_sum portfolio.contracts) (numbers_of portfolio));
       all_contracts = length portfolio.names.contracts;
-      events = count_by is_event lines;
+      events = sum_by (count_by is_event) scripts;
     }
 
 -- the first ask past the limit: its script and its line
-abbrev pub too_much_asked : Accepted → List Line → Option (ℕ × ℕ)
-too_much_asked portfolio lines = overweight (all_asks (tariff_of portfolio lines) (lines ∷ []))
+abbrev pub too_much_asked : Accepted → List (List Line) → Option (ℕ × ℕ)
+too_much_asked portfolio scripts = overweight (all_asks (tariff_of portfolio scripts) scripts)
 
 -- ---- answers
 
@@ -182,7 +183,7 @@ answers_status answers = if list_all ends_well answers then Done else Unfinished
 
 -- what is written of a script, unless its asks weigh too much
 unfoldable pub eval_outcome : Accepted → Script → Outcome
-eval_outcome portfolio script = elim (too_much_asked portfolio script.lines) [
+eval_outcome portfolio script = elim (too_much_asked portfolio (script.lines ∷ [])) [
   | Some ask ↦ script_refused 5 ask.0 ask.1
   | None ↦ record {
     status = answers_status (answers_of portfolio.contracts script.names (items_of script.lines));

@@ -1,24 +1,22 @@
 //! The answers to the asks of a script, evaluated on a board and written one after the other.
-ghost use Rattle.std.specs.Prelude.{◌≡◌, ◌∷◌, [], ℕ, ◌+◌, ◌-◌, ◌≤◌, ◌<◌, length, IfOk};
-ghost use Rattle.std.specs.List.{All, flat_map, list_all};
+ghost use Rattle.std.specs.Prelude.{◌≡◌, ◌∷◌, [], ◌+◌, ◌-◌, ◌≤◌, length, IfOk};
+ghost use Rattle.std.specs.List.{flat_map, list_all};
 ghost use Rattle.act_model.specs.Journal.{book_of};
-ghost use Rattle.act_print.specs.Printed.{printed_answer, printed_block};
-ghost use Rattle.act_print.specs.Text.{answer_text, block_text};
+ghost use Rattle.act_print.specs.Printed.{printed_answer};
+ghost use Rattle.act_print.specs.Text.{answer_text};
 ghost use Rattle.act_profile.specs.Answers.{answers_of};
-ghost use Rattle.act_model.specs.Run.{Stream};
-ghost use Rattle.act_top.specs.Output.{all_end, ends_well, is_end, items_of, output_of};
+ghost use Rattle.act_top.specs.Output.{ends_well, items_of, output_of};
 ghost use Rattle.act_top.specs.Reached.{rows_calculated};
-ghost use Rattle.act_top.specs.Ready.{runs_text, shared_runs};
 ghost use Rattle.act_top.specs.Written.{Writes, faults_after};
 
 use crate::driving::{answer, append};
 use crate::evaluation::Evaluation;
 use crate::journal::entry_count;
-use crate::transcript::{write_answer_head, write_opening, write_run};
+use crate::transcript::{write_answer, write_opening};
 use crate::writing::Stop;
 use act_board::Board;
 use act_io::Sink;
-use act_model::{Answer, Close, Run, Step};
+use act_model::Step;
 use act_num::{NoMemory, Steps};
 use std::alloc::Global;
 use std::sync::Arc;
@@ -78,7 +76,7 @@ impl Evaluation {
                 Step::Append(entry) => append(board, entry)?,
                 Step::Ask(asked) => {
                     let answer = answer(alloc, &self.portfolio, board, asked, steps)?;
-                    let written = self.write_answer(out, line, &answer);
+                    let written = write_answer(out, line, self.names(), &answer);
                     drop(answer);
                     let ends = written?;
                     ended &= ends;
@@ -87,64 +85,4 @@ impl Evaluation {
         }
         Ok(ended)
     }
-
-    /// Writes an answer, and answers whether each of its blocks ends in `end`.
-    fn write_answer<K: Sink>(
-        &self,
-        out: &mut K,
-        line: &mut Vec<u8>,
-        answer: &Answer,
-    ) -> Result<bool, Stop>
-        requires { All (λ (run : ℕ × Stream). run.0 < length self.now.portfolio.names.contracts) answer.now.runs }
-        ensures text { Writes result (answer_text self.now.script.names (printed_answer answer.now)) (K.written out.old) (K.written out.new) }
-        ensures ended { IfOk result (λ ended. ended ≡ ends_well answer.now) }
-        ensures faults { K.faults out.new ≡ faults_after result (K.faults out.old) }
-    {
-        write_answer_head(out, line, answer)?;
-        self.write_blocks(out, line, &answer.runs)
-    }
-
-    /// Writes the blocks of contracts with their runs, and answers whether each ends in `end`.
-    fn write_blocks<K: Sink>(
-        &self,
-        out: &mut K,
-        line: &mut Vec<u8>,
-        runs: &[(u32, Arc<Run, Global>)],
-    ) -> Result<bool, Stop>
-        requires { All (λ (run : ℕ × Stream). run.0 < length self.now.portfolio.names.contracts) (shared_runs runs.now) }
-        ensures text { Writes result (runs_text self.now.script.names (shared_runs runs.now)) (K.written out.old) (K.written out.new) }
-        ensures ended { IfOk result (λ ended. ended ≡ all_end (shared_runs runs.now)) }
-        ensures faults { K.faults out.new ≡ faults_after result (K.faults out.old) }
-    {
-        let mut ended = true;
-        for run in runs {
-            let ends = self.write_run_of(out, line, run.0, &run.1)?;
-            ended &= ends;
-        }
-        Ok(ended)
-    }
-
-    /// Writes the block of a contract with its run, and answers whether it ends in `end`.
-    fn write_run_of<K: Sink>(
-        &self,
-        out: &mut K,
-        line: &mut Vec<u8>,
-        contract: u32,
-        run: &Run,
-    ) -> Result<bool, Stop>
-        requires { contract < length self.now.portfolio.names.contracts }
-        ensures text { Writes result (block_text self.now.script.names (printed_block (contract, run.now))) (K.written out.old) (K.written out.new) }
-        ensures ended { IfOk result (λ ended. ended ≡ is_end run.now.close) }
-        ensures faults { K.faults out.new ≡ faults_after result (K.faults out.old) }
-    {
-        write_run(out, line, self.names(), contract, run)?;
-        Ok(is_end(&run.close))
-    }
-}
-
-/// Whether a run wasn't stopped.
-fn is_end(close: &Close) -> bool
-    ensures { result ≡ is_end close.now }
-{
-    matches!(close, Close::End)
 }

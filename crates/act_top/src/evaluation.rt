@@ -11,6 +11,7 @@ use act_model::Names;
 use act_portfolio::Portfolio;
 use std::alloc::Global;
 use std::marker::Model;
+use std::slice;
 use std::sync::Arc;
 
 /// A portfolio, and a script of it whose asks don't weigh too much.
@@ -51,7 +52,7 @@ impl Evaluation {
         ensures too_much { IfErr result (λ halt. IfSome (refusal_of halt) (λ outcome. eval_outcome portfolio script ≡ outcome)) }
         ensures refused { IfErr result (RefusesOnly ⊥ ⊤) }
     {
-        match check_weight(alloc, &portfolio, &script) {
+        match check_weight(alloc, &portfolio, slice::from_ref(&script.lines)) {
             Ok(()) => match Arc::new(alloc, portfolio) {
                 Ok(portfolio) => Ok(Evaluation { portfolio, script }),
                 Err(_) => {

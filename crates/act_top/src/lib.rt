@@ -1,19 +1,28 @@
 //! The program's commands, from the words it is given to the bytes it writes.
 #![tactic(auto)]
 
+mod actus;
 mod answers;
 mod check;
 mod command;
+mod desk;
+mod desk_command;
+mod desk_job;
 mod driving;
 mod evaluation;
 mod halt;
+mod interleaving;
 mod job;
 mod journal;
 mod line;
 mod reading;
+mod scripts;
 mod top;
 mod transcript;
 mod weight;
 mod writing;
 
+pub use actus::actus_top;
+pub use desk::{Ran, desk_top};
+pub use interleaving::{one_script_is_its_journal, scripts_in_turn_are_an_interleaving};
 pub use top::{Status, eval_top};

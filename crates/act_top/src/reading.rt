@@ -2,14 +2,14 @@
 ghost use Rattle.std.specs.Prelude.{◌≡◌, ◌≤◌, ℕ, List, length, Err, IfErr, IfOk, IfSome, Option, option_map, ⊤, vec_len};
 ghost use Rattle.act_io.specs.Fetch.{fetch_faults, names_after};
 ghost use Rattle.act_io.specs.declared.files.FetchFault.TheVariants.{TooLong as TooLongFault};
-ghost use Rattle.act_top.specs.Halts.{AsksFile, AsksScript, Reads, ReadsBytes, RefusesOnly, read_faults, refusal_of};
+ghost use Rattle.act_top.specs.Halts.{AsksFile, AsksScript, Reads, ReadsBytes, RefusesAt, RefusesOnly, read_faults, refusal_of};
 ghost use Rattle.act_top.specs.Output.{ask_for_all, long_outcome, portfolio_accepted, portfolio_read, portfolio_refused, read_outcome, script_accepted, script_fault, script_read, script_refused, script_told};
-ghost use Rattle.act_top.specs.Ready.{AreOf};
+ghost use Rattle.act_top.specs.Ready.{AreOf, IsReadBehind};
 
 use crate::halt::Halt;
 use crate::line::line_of;
 use act_io::{FetchFault, Files};
-use act_model::{Asked, Line, MOST_BYTES, Names, Step};
+use act_model::{Asked, Line, MOST_BYTES, MOST_ENTRIES, Names, Step};
 use act_num::NoMemory;
 use act_portfolio::{Portfolio, PortfolioFault};
 use act_script::{ScriptFault, read_script};
@@ -61,25 +61,34 @@ pub(crate) fn script_of<F: Files>(
     ensures asked { AsksScript (option_map (λ s. s.now) name.entry) result (F.asked files.old) (F.asked files.new) }
 {
     match name {
-        Some(name) => read_lines(alloc, files, portfolio, name),
+        Some(name) => {
+            let names = portfolio.into_names()?;
+            read_lines(alloc, files, portfolio, 1, names, 0, name)
+        }
         None => ask_for_all(alloc, portfolio),
     }
 }
 
-/// The script of the file of that name.
-fn read_lines<F: Files>(
+/// The script of that number, of the file of that name, read with the names and behind the entries of those before it.
+pub(crate) fn read_lines<F: Files>(
     alloc: Global,
     files: &mut F,
     portfolio: &Portfolio,
+    number: u32,
+    names: Names,
+    entries: u64,
     name: &str,
 ) -> Result<Script, Halt>
-    ensures told { IfSome (F.content files.old name.now) (λ bytes. Reads (script_read portfolio.now name.now bytes) result) }
-    ensures lines { IfOk result (λ script. AreOf portfolio.now script) }
+    requires few { entries ≤ MOST_ENTRIES }
+    ensures told { IfSome (F.content files.old name.now) (λ bytes. Reads (script_read portfolio.now number names entries name.now bytes) result) }
+    ensures lines { IfOk result (IsReadBehind names entries) }
+    ensures line { IfErr result (RefusesAt number) }
     ensures faults { F.faults files.new ≡ read_faults result (F.faults files.old) }
     ensures asked { AsksFile ⊥ ⊤ name.now result (F.asked files.old) (F.asked files.new) }
+    ensures same { (other : List ℕ) → F.content files.new other ≡ F.content files.old other }
 {
     let bytes = fetch(alloc, files, name)?;
-    accepted_script(alloc, portfolio, &bytes)
+    accepted_script(alloc, portfolio, number, names, entries, &bytes)
 }
 
 /// The script that asks once for all contracts.
@@ -174,15 +183,22 @@ fn portfolio_line(alloc: Global, number: u8, place: u32, what: &[u8]) -> Result<
     )
 }
 
-/// The script of a file's bytes.
-fn accepted_script(alloc: Global, portfolio: &Portfolio, bytes: &[u8]) -> Result<Script, Halt>
+/// The script of that number of a file's bytes, read with the names and behind the entries of those before it.
+fn accepted_script(
+    alloc: Global,
+    portfolio: &Portfolio,
+    number: u32,
+    mut names: Names,
+    mut entries: u64,
+    bytes: &[u8],
+) -> Result<Script, Halt>
+    requires few { entries ≤ MOST_ENTRIES }
     requires within { length bytes.now ≤ MOST_BYTES }
-    ensures told { Reads (script_accepted portfolio.now bytes.now) result }
-    ensures lines { IfOk result (λ script. AreOf portfolio.now script) }
+    ensures told { Reads (script_accepted portfolio.now number names entries bytes.now) result }
+    ensures lines { IfOk result (IsReadBehind names entries) }
     ensures refused { IfErr result (RefusesOnly ⊥ ⊤) }
+    ensures line { IfErr result (RefusesAt number) }
 {
-    let mut names = portfolio.into_names()?;
-    let mut entries = 0;
     match read_script(alloc, bytes, &mut names, portfolio.terms(), &mut entries) {
         Ok(lines) => Ok(Script {
             lines,
@@ -191,21 +207,22 @@ fn accepted_script(alloc: Global, portfolio: &Portfolio, bytes: &[u8]) -> Result
         }),
         Err(fault) => {
             drop(names);
-            Err(script_halt(alloc, fault))
+            Err(script_halt(alloc, number, fault))
         }
     }
 }
 
-/// The halt of a script's fault.
-fn script_halt(alloc: Global, fault: ScriptFault) -> Halt
-    ensures outcome { IfSome (refusal_of result) (λ outcome. outcome ≡ script_fault fault) }
+/// The halt of the fault of the script of that number.
+fn script_halt(alloc: Global, script: u32, fault: ScriptFault) -> Halt
+    ensures outcome { IfSome (refusal_of result) (λ outcome. outcome ≡ script_fault script fault) }
     ensures refused { RefusesOnly ⊥ ⊤ result }
+    ensures line { RefusesAt script result }
 {
     match fault {
-        ScriptFault::NotLine(line) => script_refused(alloc, 1, 1, line),
-        ScriptFault::UnknownName(line) => script_refused(alloc, 2, 1, line),
-        ScriptFault::EventUnfit(line) => script_refused(alloc, 3, 1, line),
-        ScriptFault::TooManyEntries(line) => script_refused(alloc, 4, 1, line),
+        ScriptFault::NotLine(line) => script_refused(alloc, 1, script, line),
+        ScriptFault::UnknownName(line) => script_refused(alloc, 2, script, line),
+        ScriptFault::EventUnfit(line) => script_refused(alloc, 3, script, line),
+        ScriptFault::TooManyEntries(line) => script_refused(alloc, 4, script, line),
         ScriptFault::NoMemory => Halt::Memory,
     }
 }

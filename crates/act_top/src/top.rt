@@ -26,7 +26,7 @@ use std::sync::ledger::Ledger;
 pub enum Status {
     /// All was accepted, and the whole text was written; each block in it ends in `end`.
     Done,
-    /// The words are of no command's form.
+    /// The words are of none of the call's forms.
     Words,
     /// A file wasn't read.
     ReadFault,
@@ -147,7 +147,7 @@ pub fn eval_top<F: Files, K: Sink, L: Ledger>(
 }
 
 /// The status of what was written whole, or of why it wasn't.
-fn status_of(written: Result<Status, Stop>) -> Status
+pub(crate) fn status_of(written: Result<Status, Stop>) -> Status
     ensures { result ≡ status_of written }
 {
     match written {
@@ -158,7 +158,7 @@ fn status_of(written: Result<Status, Stop>) -> Status
 }
 
 /// Writes the usage line.
-fn refuse_words<K: Sink>(out: &mut K) -> Result<Status, Stop>
+pub(crate) fn refuse_words<K: Sink>(out: &mut K) -> Result<Status, Stop>
     ensures status { IfOk result (λ status. status ≡ words_outcome.status) }
     ensures text { Writes result words_outcome.text (K.written out.old) (K.written out.new) }
     ensures faults { K.faults out.new ≡ faults_after result (K.faults out.old) }
@@ -192,7 +192,7 @@ fn write_job<K: Sink, L: Ledger>(
 }
 
 /// The status of answers, by whether each block ends in `end`.
-fn answers_status(ended: bool) -> Status
+pub(crate) fn answers_status(ended: bool) -> Status
     ensures { result ≡ (if ended then Status.Done else Status.Unfinished) }
 {
     if ended {
@@ -203,7 +203,7 @@ fn answers_status(ended: bool) -> Status
 }
 
 /// Writes the line of a halt, and answers the status that it ends with.
-fn write_halt<K: Sink>(out: &mut K, halt: &Halt) -> Result<Status, Stop>
+pub(crate) fn write_halt<K: Sink>(out: &mut K, halt: &Halt) -> Result<Status, Stop>
     ensures status { IfOk result (λ status. status ≡ (halt_outcome halt.now).status) }
     ensures text { Writes result (halt_outcome halt.now).text (K.written out.old) (K.written out.new) }
     ensures memory { halt.now ≡ Halt.Memory → result ≡ Err MemoryStop }

@@ -1,21 +1,26 @@
 //! The text of a journal and its answers, written line by line.
-ghost use Rattle.std.specs.Prelude.{◌≡◌, ◌≤◌, ◌<◌, true, ◌++◌, length, Err};
-ghost use Rattle.std.specs.List.{All, flat_map};
+ghost use Rattle.std.specs.Prelude.{◌≡◌, ◌≤◌, ◌<◌, ◌^◌, ℕ, true, ◌++◌, length, map, Err, IfOk};
+ghost use Rattle.std.specs.List.{All, flat_map, list_all};
+ghost use Rattle.act_model.specs.Answer.{Reply};
 ghost use Rattle.act_model.specs.Journal.{is_known};
-ghost use Rattle.act_print.specs.Printed.{printed_block};
-ghost use Rattle.act_print.specs.Text.{answer_head_text, answers_head_text, block_head_text, block_text, item_text, journal_head_text};
+ghost use Rattle.act_model.specs.Run.{Stream};
+ghost use Rattle.act_print.specs.Printed.{printed_answer, printed_block};
+ghost use Rattle.act_print.specs.Text.{answer_head_text, answer_text, answers_head_text, block_head_text, block_text, item_text, journal_head_text, text_of};
 ghost use Rattle.act_text.specs.Lines.{close_text, row_text};
-ghost use Rattle.act_top.specs.Output.{items_of};
-ghost use Rattle.act_top.specs.Ready.{opening_text};
+ghost use Rattle.act_top.specs.Output.{all_end, ends_well, is_end, items_of};
+ghost use Rattle.act_top.specs.Ready.{answers_text, opening_text, runs_text, shared_runs};
+ghost use Rattle.act_session.specs.Playing.{replies_of};
 ghost use Rattle.act_top.specs.Written.{Writes, faults_after};
 
 use crate::journal::{CALLER, ask_count};
 use crate::reading::Script;
 use crate::writing::{Stop, write_line};
 use act_io::Sink;
-use act_model::{Answer, Close, Item, Line, Names, Row, Rows, Run, Step};
+use act_model::{Answer, Close, Item, Line, Names, Row, Rows, Run};
 use act_print::{answer_head, answers_head, block_head, item_line, journal_head};
 use act_text::{close_line, row_line};
+use std::alloc::Global;
+use std::sync::Arc;
 
 /// Writes the journal of a script, and the line above its answers. `line` is room for a line, here and below.
 pub(crate) fn write_opening<K: Sink>(
@@ -29,6 +34,41 @@ pub(crate) fn write_opening<K: Sink>(
 {
     write_journal(out, line, &script.names, &script.lines)?;
     write_answers_head(out, line, ask_count(&script.lines))
+}
+
+/// Writes a journal, and the answers to the asks of its callers, caller after caller. It answers whether each block ends
+/// in `end`.
+pub(crate) fn write_transcript<K: Sink>(
+    alloc: Global,
+    out: &mut K,
+    names: &Names,
+    items: &[Item],
+    answers: &[Vec<Answer>],
+) -> Result<bool, Stop>
+    requires known { All (λ item. is_known names.now item.step ≡ true) items.now }
+    requires named { All (λ (answer : Reply). All (λ (run : ℕ × Stream). run.0 < length names.now.contracts) answer.runs) (replies_of answers.now) }
+    requires few { length (replies_of answers.now) ≤ length items.now }
+    ensures text { Writes result (text_of names.now items.now (map printed_answer (replies_of answers.now))) (K.written out.old) (K.written out.new) }
+    ensures ended { IfOk result (λ ended. ended ≡ list_all ends_well (replies_of answers.now)) }
+    ensures faults { K.faults out.new ≡ faults_after result (K.faults out.old) }
+{
+    let mut line = Vec::new(alloc);
+    write_journal_head(out, &mut line, items.len())?;
+    write_items(out, &mut line, names, items)?;
+    write_answers_head(out, &mut line, answer_count(answers))?;
+    write_answer_lists(out, &mut line, names, answers)
+}
+
+/// How many answers there are.
+fn answer_count(lists: &[Vec<Answer>]) -> usize
+    requires { length (replies_of lists.now) < 2 ^ 64 }
+    ensures { result ≡ length (replies_of lists.now) }
+{
+    let mut count = 0;
+    for answers in lists {
+        count += answers.len();
+    }
+    count
 }
 
 /// Writes the line above so many answers.
@@ -54,7 +94,7 @@ fn write_journal<K: Sink>(
     ensures faults { K.faults out.new ≡ faults_after result (K.faults out.old) }
 {
     write_journal_head(out, line, lines.len())?;
-    write_items(out, line, names, lines)
+    write_steps(out, line, names, lines)
 }
 
 /// Writes the line above a journal of so many items.
@@ -68,7 +108,7 @@ fn write_journal_head<K: Sink>(out: &mut K, line: &mut Vec<u8>, count: usize) ->
 }
 
 /// Writes a line for each step of a script.
-fn write_items<K: Sink>(
+fn write_steps<K: Sink>(
     out: &mut K,
     line: &mut Vec<u8>,
     names: &Names,
@@ -79,37 +119,143 @@ fn write_items<K: Sink>(
     ensures faults { K.faults out.new ≡ faults_after result (K.faults out.old) }
 {
     for step in lines {
-        write_item(out, line, names, step.step)?;
+        let item = Item {
+            caller: CALLER,
+            step: step.step,
+        };
+        write_item(out, line, names, &item)?;
     }
     Ok(())
 }
 
-/// Writes the line of a step.
+/// Writes a line for each item of a journal.
+fn write_items<K: Sink>(
+    out: &mut K,
+    line: &mut Vec<u8>,
+    names: &Names,
+    items: &[Item],
+) -> Result<(), Stop>
+    requires known { All (λ item. is_known names.now item.step ≡ true) items.now }
+    ensures text { Writes result (flat_map (item_text names.now) items.now) (K.written out.old) (K.written out.new) }
+    ensures faults { K.faults out.new ≡ faults_after result (K.faults out.old) }
+{
+    for item in items {
+        write_item(out, line, names, item)?;
+    }
+    Ok(())
+}
+
+/// Writes the line of an item of a journal.
 fn write_item<K: Sink>(
     out: &mut K,
     line: &mut Vec<u8>,
     names: &Names,
-    step: Step,
+    item: &Item,
 ) -> Result<(), Stop>
-    requires known { is_known names.now step ≡ true }
-    ensures text { Writes result (item_text names.now (record { caller = CALLER; step = step })) (K.written out.old) (K.written out.new) }
+    requires known { is_known names.now item.now.step ≡ true }
+    ensures text { Writes result (item_text names.now item.now) (K.written out.old) (K.written out.new) }
     ensures faults { K.faults out.new ≡ faults_after result (K.faults out.old) }
 {
-    let item = Item {
-        caller: CALLER,
-        step,
-    };
     line.clear();
-    item_line(names, &item, line)?;
+    item_line(names, item, line)?;
     write_line(out, line)
 }
 
-/// Writes the line above an answer.
-pub(crate) fn write_answer_head<K: Sink>(
+/// Writes the answers to the asks of callers, caller after caller, and answers whether each block ends in `end`.
+fn write_answer_lists<K: Sink>(
     out: &mut K,
     line: &mut Vec<u8>,
+    names: &Names,
+    lists: &[Vec<Answer>],
+) -> Result<bool, Stop>
+    requires { All (λ (answer : Reply). All (λ (run : ℕ × Stream). run.0 < length names.now.contracts) answer.runs) (replies_of lists.now) }
+    ensures text { Writes result (answers_text names.now (replies_of lists.now)) (K.written out.old) (K.written out.new) }
+    ensures ended { IfOk result (λ ended. ended ≡ list_all ends_well (replies_of lists.now)) }
+    ensures faults { K.faults out.new ≡ faults_after result (K.faults out.old) }
+{
+    let mut ended = true;
+    for answers in lists {
+        let ends = write_answer_list(out, line, names, answers)?;
+        ended &= ends;
+    }
+    Ok(ended)
+}
+
+/// Writes answers, and answers whether each block ends in `end`.
+fn write_answer_list<K: Sink>(
+    out: &mut K,
+    line: &mut Vec<u8>,
+    names: &Names,
+    answers: &[Answer],
+) -> Result<bool, Stop>
+    requires { All (λ (answer : Reply). All (λ (run : ℕ × Stream). run.0 < length names.now.contracts) answer.runs) answers.now }
+    ensures text { Writes result (answers_text names.now answers.now) (K.written out.old) (K.written out.new) }
+    ensures ended { IfOk result (λ ended. ended ≡ list_all ends_well answers.now) }
+    ensures faults { K.faults out.new ≡ faults_after result (K.faults out.old) }
+{
+    let mut ended = true;
+    for answer in answers {
+        let ends = write_answer(out, line, names, answer)?;
+        ended &= ends;
+    }
+    Ok(ended)
+}
+
+/// Writes an answer, and answers whether each of its blocks ends in `end`.
+pub(crate) fn write_answer<K: Sink>(
+    out: &mut K,
+    line: &mut Vec<u8>,
+    names: &Names,
     answer: &Answer,
-) -> Result<(), Stop>
+) -> Result<bool, Stop>
+    requires { All (λ (run : ℕ × Stream). run.0 < length names.now.contracts) answer.now.runs }
+    ensures text { Writes result (answer_text names.now (printed_answer answer.now)) (K.written out.old) (K.written out.new) }
+    ensures ended { IfOk result (λ ended. ended ≡ ends_well answer.now) }
+    ensures faults { K.faults out.new ≡ faults_after result (K.faults out.old) }
+{
+    write_answer_head(out, line, answer)?;
+    write_blocks(out, line, names, &answer.runs)
+}
+
+/// Writes the blocks of contracts with their runs, and answers whether each ends in `end`.
+fn write_blocks<K: Sink>(
+    out: &mut K,
+    line: &mut Vec<u8>,
+    names: &Names,
+    runs: &[(u32, Arc<Run, Global>)],
+) -> Result<bool, Stop>
+    requires { All (λ (run : ℕ × Stream). run.0 < length names.now.contracts) (shared_runs runs.now) }
+    ensures text { Writes result (runs_text names.now (shared_runs runs.now)) (K.written out.old) (K.written out.new) }
+    ensures ended { IfOk result (λ ended. ended ≡ all_end (shared_runs runs.now)) }
+    ensures faults { K.faults out.new ≡ faults_after result (K.faults out.old) }
+{
+    let mut ended = true;
+    for run in runs {
+        let ends = write_block(out, line, names, run.0, &run.1)?;
+        ended &= ends;
+    }
+    Ok(ended)
+}
+
+/// Writes the block of a contract with its run, and answers whether it ends in `end`.
+fn write_block<K: Sink>(
+    out: &mut K,
+    line: &mut Vec<u8>,
+    names: &Names,
+    contract: u32,
+    run: &Run,
+) -> Result<bool, Stop>
+    requires { contract < length names.now.contracts }
+    ensures text { Writes result (block_text names.now (printed_block (contract, run.now))) (K.written out.old) (K.written out.new) }
+    ensures ended { IfOk result (λ ended. ended ≡ is_end run.now.close) }
+    ensures faults { K.faults out.new ≡ faults_after result (K.faults out.old) }
+{
+    write_run(out, line, names, contract, run)?;
+    Ok(is_end(&run.close))
+}
+
+/// Writes the line above an answer.
+fn write_answer_head<K: Sink>(out: &mut K, line: &mut Vec<u8>, answer: &Answer) -> Result<(), Stop>
     ensures text { Writes result (answer_head_text answer.now.caller answer.now.number answer.now.version) (K.written out.old) (K.written out.new) }
     ensures faults { K.faults out.new ≡ faults_after result (K.faults out.old) }
 {
@@ -119,7 +265,7 @@ pub(crate) fn write_answer_head<K: Sink>(
 }
 
 /// Writes the block of a contract with its run.
-pub(crate) fn write_run<K: Sink>(
+fn write_run<K: Sink>(
     out: &mut K,
     line: &mut Vec<u8>,
     names: &Names,
@@ -190,4 +336,11 @@ fn write_close<K: Sink>(
     line.clear();
     close_line(names, close, line)?;
     write_line(out, line)
+}
+
+/// Whether a run wasn't stopped.
+fn is_end(close: &Close) -> bool
+    ensures { result ≡ is_end close.now }
+{
+    matches!(close, Close::End)
 }

@@ -1,18 +1,21 @@
-//! What the asks of a script weigh.
-ghost use Rattle.std.specs.Prelude.{◌≡◌, None, [], ◌∷◌, ◌++◌, count_by, map, sum, IfErr, IfOk, IfSome, OnOk, ⊤};
+//! What the asks of scripts weigh.
+ghost use Rattle.std.specs.Prelude.{◌≡◌, ◌≤◌, None, count_by, length, map, sum, sum_by, IfErr, IfOk, IfSome, IsSomeAnd, ⊤};
+ghost use Rattle.std.specs.List.{All as Each};
+ghost use Rattle.act_model.specs.Journal.{is_append};
+ghost use Rattle.act_model.specs.declared.journal.Line.{Line as StepLine};
 ghost use Rattle.act_portfolio.specs.Counts.{cone_sum};
+ghost use Rattle.act_script.specs.Asks.{AsksBelow, line_lists};
 ghost use Rattle.act_top.specs.Halts.{RefusesOnly, refusal_of};
-ghost use Rattle.act_top.specs.Output.{eval_outcome, is_event, numbers_of, too_much_asked};
-ghost use Rattle.act_top.specs.Ready.{AreOf};
+ghost use Rattle.act_top.specs.Output.{is_event, numbers_of, script_refused, too_much_asked};
 
 use crate::halt::Halt;
-use crate::reading::{Script, script_refused};
-use act_model::{Line, Obs, Step};
+use crate::reading::script_refused;
+use act_board::MOST_CALLERS;
+use act_model::{Line, MOST_ENTRIES, Obs, Step};
 use act_num::NoMemory;
 use act_portfolio::Portfolio;
 use act_script::{All, weigh};
 use std::alloc::Global;
-use std::slice;
 
 /// The cone sums of contracts, and their sum.
 #[derive(Drop)]
@@ -21,15 +24,18 @@ struct Weights {
     all: u64,
 }
 
-/// Refuses a script whose asks weigh too much.
+/// Refuses scripts whose asks weigh too much.
 pub(crate) fn check_weight(
     alloc: Global,
     portfolio: &Portfolio,
-    script: &Script,
+    scripts: &[Vec<Line>],
 ) -> Result<(), Halt>
-    requires lines { AreOf portfolio.now script.now }
-    ensures light { IfOk result (λ _. too_much_asked portfolio.now script.now.lines ≡ None) }
-    ensures outcome { IfErr result (λ halt. IfSome (refusal_of halt) (λ outcome. eval_outcome portfolio.now script.now ≡ outcome)) }
+    requires contracts { Each (AsksBelow (length portfolio.now.names.contracts)) (line_lists scripts.now) }
+    requires few { sum_by (count_by (λ (line : StepLine). is_append line.step)) (line_lists scripts.now) ≤ MOST_ENTRIES }
+    requires callers { length scripts.now ≤ MOST_CALLERS }
+    ensures light { IfOk result (λ _. too_much_asked portfolio.now (line_lists scripts.now) ≡ None) }
+    ensures outcome { IfErr result (λ halt. IfSome (refusal_of halt) (λ outcome.
+        IsSomeAnd (too_much_asked portfolio.now (line_lists scripts.now)) (λ ask. outcome ≡ script_refused 5 ask.0 ask.1))) }
     ensures refused { IfErr result (RefusesOnly ⊥ ⊤) }
 {
     let weights = weights_of(alloc, portfolio)?;
@@ -37,8 +43,7 @@ pub(crate) fn check_weight(
         weight: weights.all,
         contracts: u64::from(portfolio.named()),
     };
-    let events = event_count(&script.lines);
-    match weigh(&weights.each, all, events, slice::from_ref(&script.lines)) {
+    match weigh(&weights.each, all, all_events(scripts), scripts) {
         None => Ok(()),
         Some((script, line)) => Err(script_refused(alloc, 5, script, line)),
     }
@@ -58,6 +63,18 @@ fn weights_of(alloc: Global, portfolio: &Portfolio) -> Result<Weights, NoMemory>
         each.push(weight)?;
     }
     Ok(Weights { each, all })
+}
+
+/// How many event entries all scripts have.
+fn all_events(scripts: &[Vec<Line>]) -> u64
+    requires few { sum_by (count_by (λ (line : StepLine). is_append line.step)) (line_lists scripts.now) ≤ MOST_ENTRIES }
+    ensures { result ≡ sum_by (count_by is_event) (line_lists scripts.now) }
+{
+    let mut events = 0;
+    for script in scripts {
+        events += event_count(script);
+    }
+    events
 }
 
 /// How many event entries a script has.

@@ -1,13 +1,13 @@
 -- An actor plays on after a call of a desk.
-use Rattle.std.proofs.Common.{◌≡◌, ℕ, ◌+◌, ◌<◌, ◌≤◌, Bool, true, false, length, take, get_or, List, Ok, Err, refl, sym, ap, subst, ◌∙◌, arith}
+use Rattle.std.proofs.Common.{◌≡◌, ℕ, ◌+◌, ◌<◌, ◌≤◌, Bool, true, false, length, get_or, List, Ok, Err, refl, sym, ap, subst, ◌∙◌, arith}
 use Rattle.std.specs.Prelude.{Result}
 use Rattle.act_model.specs.declared.journal.Asked.{Asked}
 use Rattle.act_model.specs.declared.observed.Obs.{Obs}
 use Rattle.act_num.specs.declared.NoMemory.{NoMemory}
 use Rattle.act_portfolio.specs.Reading.{Accepted}
-use Rattle.act_turn.specs.Standing.{AreNumbered, Identity, Standing, first_standing}
+use Rattle.act_turn.specs.Standing.{AreNumbered, Standing, first_standing}
 use Rattle.std.proofs.lemmas.Option.{get_or_from_slice_get}
-use Rattle.act_board.specs.Calls.{Claims, IsOf}
+use Rattle.act_board.specs.Calls.{Claims}
 use Rattle.act_board.specs.Entries.{list_of}
 use Rattle.act_board.specs.History.{History, IsPresent, and_then, asks_by, collected_by, is_claimed, is_given_up, is_leave_by}
 use Rattle.act_board.specs.Work.{Work, version}
@@ -21,8 +21,8 @@ use Rattle.act_board.specs.declared.outcome.Claim.TheVariants as claim
 use Rattle.act_board.specs.declared.outcome.Collected.{Collected}
 use Rattle.act_board.specs.declared.outcome.Collected.TheVariants as collected
 use Rattle.act_model.specs.Answer.{Reply}
-use Rattle.act_board.proofs.Going.{entries-same}
 use Rattle.act_desk.specs.Calls.{Appends, Asks, ClaimsOrNot, CollectsOrNot, Finishes, GivesUp}
+use Rattle.act_desk.specs.Desk.{Desk}
 use Rattle.act_desk.specs.Step.{HasSeen, IsStep, opening}
 use Rattle.act_desk.proofs.Own.{Counts, counts-append, counts-ask, counts-claim, counts-collect, counts-finish, counts-give_up, present-next, stepped}
 use Rattle.act_desk.proofs.Stays.{asks-stay, collects-stay, names-stay, present-stays}
@@ -111,7 +111,7 @@ module _ (k : ℕ) (before after : History) where
   keeps-no_memory (Ok answer) fault err is = absurd (cc)
   keeps-no_memory (Err other) fault err is = keeps-same is.unchanged
 
-module _ (desk : Identity) (old new : Standing Entry) (Call : History → History → Type 0) (is : IsStep old Call new) (before after : Actor) (plays : Plays desk old before)
+module _ (desk : Desk) (old new : Standing Entry) (Call : History → History → Type 0) (is : IsStep old Call new) (before after : Actor) (plays : Plays desk old before)
     (number : after.number ≡ before.number) (of : after.of ≡ before.of) where
   -- the actor plays on, where its caller is known
   pub plays-by : ((f t : History) → Call f t → t.portfolio ≡ f.portfolio) → (after.here ≡ true → HasSeen new (IsCaller after.number after.open_asks)) → PlaysOn desk before new after
@@ -145,27 +145,8 @@ module _ (desk : Identity) (old new : Standing Entry) (Call : History → Histor
         holds = subst (λ (n : ℕ). IsCaller n after.open_asks next.after) (sym number) (kept.present (present-stays before.number known.history next.found next.others known.holds.0), sum);
       })
 
--- work that was claimed is of the history that the pass has seen then
-pub claimed-seen : (old new : Standing Entry) (answer : Result Claim NoMemory) (history : History) (work : Work) → old.seen ≡ list_of history → IsStep old (ClaimsOrNot answer) new → answer ≡ Ok (claim.Task work) → HasSeen new (λ h. IsOf h work)
-claimed-seen old new answer history work seen is task =
-    let next = stepped old.number history (ClaimsOrNot answer) old new refl seen is in
-    record { history = next.after; seen = next.seen; holds = by answer next.found next.after task next.call }
-  where
-    by : (answer : Result Claim NoMemory) (f t : History) → answer ≡ Ok (claim.Task work) → ClaimsOrNot answer f t → IsOf t work
-    by (Ok (claim.Task other)) f t same call =
-        let one : other ≡ work = cc in
-        subst (λ (h : History). IsOf h work) (sym call.claimed.3)
-        (record {
-          portfolio = (subst (IsOf f) one call.claimed.1).portfolio;
-          entries = (subst (IsOf f) one call.claimed.1).entries ∙ sym (ap (take (version work)) (entries-same f (mark.Claim other.contract (version other)) refl));
-        })
-    by (Ok claim.Idle) f t same call = absurd (cc)
-    by (Ok claim.Ended) f t same call = absurd (cc)
-    by (Ok claim.GivenUp) f t same call = absurd (cc)
-    by (Err fault) f t same call = absurd (cc)
-
 -- the actor of a pass that hasn't had a turn: a caller, or a worker
-pub first-plays : (desk : Identity) (portfolio : Accepted) (callers number : ℕ) (pass : Standing Entry) (actor : Actor) → IsFirst desk portfolio callers number pass
+pub first-plays : (desk : Desk) (portfolio : Accepted) (callers number : ℕ) (pass : Standing Entry) (actor : Actor) → IsFirst desk portfolio callers number pass
     → actor.number ≡ number → (actor.here ≡ true → number ≤ callers) → actor.open_asks ≡ 0 → actor.of.value ≡ portfolio → Plays desk pass actor
 first-plays desk portfolio callers number pass actor is same caller none of = record {
   free = is.free;
@@ -185,7 +166,7 @@ first-plays desk portfolio callers number pass actor is same caller none of = re
     no-asks = omega (arith, none)
 
 -- the first pass of a desk with one caller, before its first turn
-pub first-of : (desk : Identity) (portfolio : Accepted) (quotas : List ℕ) (passes : List (Standing Entry)) (pass : Standing Entry)
+pub first-of : (desk : Desk) (portfolio : Accepted) (quotas : List ℕ) (passes : List (Standing Entry)) (pass : Standing Entry)
     → length quotas ≡ 1 → 0 < length passes → AreNumbered desk.id (list_of (opening portfolio quotas)) passes → pass ≡ get_or passes 0 pass → IsFirst desk portfolio 1 1 pass
 first-of desk portfolio quotas passes pass one some numbered first =
     let is : pass ≡ first_standing desk.id 1 (list_of (opening portfolio quotas)) = first ∙ get_or_from_slice_get passes 0 (first_standing desk.id 1 (list_of (opening portfolio quotas))) pass (numbered 0 some) in
@@ -197,7 +178,7 @@ first-of desk portfolio quotas passes pass one some numbered first =
     }
 
 -- each pass of a desk, before its first turn
-pub each-first : (desk : Identity) (portfolio : Accepted) (quotas : List ℕ) (callers : ℕ) (passes : List (Standing Entry)) (pass : Standing Entry) (i : ℕ)
+pub each-first : (desk : Desk) (portfolio : Accepted) (quotas : List ℕ) (callers : ℕ) (passes : List (Standing Entry)) (pass : Standing Entry) (i : ℕ)
     → length quotas ≡ callers → i < length passes → AreNumbered desk.id (list_of (opening portfolio quotas)) passes → pass ≡ get_or passes i pass → IsFirst desk portfolio callers (i + 1) pass
 each-first desk portfolio quotas callers passes pass i count within numbered at =
     let is : pass ≡ first_standing desk.id (i + 1) (list_of (opening portfolio quotas)) = at ∙ get_or_from_slice_get passes i (first_standing desk.id (i + 1) (list_of (opening portfolio quotas))) pass (numbered i within) in

@@ -8,4 +8,4 @@ returns-in_err-write_journal_head-clause-text g c =
 
 pub returns-clause-text : goal.returns-clause-text
 returns-clause-text g c =
-    rw length-map (writes-behind c.write_items.result _ _ _ _ _ c.in_ok-write_journal_head.ensures.text c.write_items.ensures.text)
+    rw length-map (writes-behind c.write_steps.result _ _ _ _ _ c.in_ok-write_journal_head.ensures.text c.write_steps.ensures.text)

@@ -1,4 +1,4 @@
-use Rattle.std.proofs.Common.{None, ◌≡◌, ◌<◌, ◌≤◌, ◌+◌, ◌∷◌, ℕ, List, true, drop, take, refl, get_or, length, sym, ap, subst, ◌∙◌, arith, rules}
+use Rattle.std.proofs.Common.{None, ◌≡◌, ◌<◌, ◌≤◌, ◌+◌, ◌∷◌, [], ℕ, List, true, drop, take, refl, get_or, length, sym, ap, subst, ◌∙◌, arith, rules}
 use Rattle.std.specs.List.{All}
 use Rattle.std.specs.Prelude.{◌&&◌}
 use Rattle.act_board.specs.History.{History, and_then, asks_by, entries_of, has_result, version_of}
@@ -25,7 +25,7 @@ use Rattle.act_top.proofs.evaluation.Evaluation.write_answers.Goals.{in-Append+i
 pub loop-step-init : goal.loop-step-init
 loop-step-init g c =
     let e = c.args.self.now in
-    let light : too_much_asked e.portfolio e.script.lines ≡ None = sym (ap (λ (v : Evaluation). too_much_asked v.portfolio v.script.lines) c.self.view_is) ∙ c.self.invariant.light in
+    let light : too_much_asked e.portfolio (e.script.lines ∷ []) ≡ None = sym (ap (λ (v : Evaluation). too_much_asked v.portfolio (v.script.lines ∷ [])) c.self.view_is) ∙ c.self.invariant.light in
     rw c.requires (record {
       driven = driven-first e.portfolio (items_of e.script.lines);
       answering = answering-all e.portfolio e.script.names (book_of (items_of e.script.lines)) e.script.lines _ light refl;
@@ -87,7 +87,7 @@ loop-step-preserved g c =
           of told.ticked in
           let same : e.script.names.contracts ≡ e.portfolio.names.contracts = ap (λ (v : Evaluation). v.script.names.contracts) (sym c.self.view_is) ∙ (c.self.invariant.lines.contracts ∙ ap (λ (v : Evaluation). v.portfolio.names.contracts) c.self.view_is) in
           let written = answering-asked e.portfolio e.script.names e.script.lines c.loop-step.board c.step-item.result left c.loop-step.ended (g.K.Sink.written c.args.out.now) (g.K.Sink.written c.loop-step.out) now asked driven same w.in-Ask.is after w.in_ok-answer-in-Ask.answer
-          w.in_ok-ends-in-Ask.ends _ reply-is told.asked w.in_ok-ends-in-Ask.ensures.text w.in_ok-ends-in-Ask.ensures.ended in
+          w.in_ok-ends-in-Ask.ends _ reply-is told.asked (rw w.names.ensures.names at w.in_ok-ends-in-Ask.ensures.text) w.in_ok-ends-in-Ask.ensures.ended in
           record {
             driven = subst (IsDriven e.portfolio all (items_of left)) (sym w.board-is) (driven-ask e.portfolio all (items_of left) c.loop-step.board after asked driven quiet told.closed told.asked);
             answering = rw (w.out-is, w.ended-is)
@@ -134,7 +134,8 @@ write_answer-written-requires g c =
     let this : is_known e.script.names (step.Ask asked) ≡ true =
     subst (λ (t : Step). is_known e.script.names t ≡ true) c.in-Ask.is (subst (λ (line : Line). is_known e.script.names line.step ≡ true) (sym item_is) (all-known i c.step-item.result within)) in
     let known : is_known e.portfolio.names (step.Ask asked) ≡ true = sym (known-same e.script.names e.portfolio.names asked same) ∙ this in
-    subst (λ (r : Reply). All (λ (run : ℕ × Stream). run.0 < length e.portfolio.names.contracts) r.runs) (sym reply-is) (reply-named e.portfolio.contracts e.portfolio.names (entries_of c.loop-step.board) ask known)
+    subst (λ (ids : List (List ℕ)). All (λ (run : ℕ × Stream). run.0 < length ids) c.in_ok-answer-in-Ask.answer.runs) (sym c.names.ensures.contracts)
+    (subst (λ (r : Reply). All (λ (run : ℕ × Stream). run.0 < length e.portfolio.names.contracts) r.runs) (sym reply-is) (reply-named e.portfolio.contracts e.portfolio.names (entries_of c.loop-step.board) ask known))
 
 pub returns-in_err-ends-in-Ask-clause-text : goal.returns-in_err-ends-in-Ask-clause-text
 returns-in_err-ends-in-Ask-clause-text g c =
@@ -153,7 +154,7 @@ returns-in_err-ends-in-Ask-clause-text g c =
     let same : e.script.names.contracts ≡ e.portfolio.names.contracts = ap (λ (v : Evaluation). v.script.names.contracts) (sym c.self.view_is) ∙ (c.self.invariant.lines.contracts ∙ ap (λ (v : Evaluation). v.portfolio.names.contracts) c.self.view_is) in
     let driven = driven-line e.portfolio all _ left c.step-item.result _ c.loop-step.board here c.in-Ask.is c.loop-step.invariant.driven in
     let part = answered-part e.portfolio e.script.names e.script.lines c.loop-step.board c.step-item.result left c.loop-step.ended (g.K.Sink.written c.args.out.now) (g.K.Sink.written c.loop-step.out) now asked driven same c.in-Ask.is
-    c.in_err-ends-in-Ask.field-0.0 c.in_ok-answer-in-Ask.answer _ reply-is c.in_err-ends-in-Ask.ensures.text in
+    c.in_err-ends-in-Ask.field-0.0 c.in_ok-answer-in-Ask.answer _ reply-is (rw c.names.ensures.names at c.in_err-ends-in-Ask.ensures.text) in
     rw (answers-are e.portfolio e.script.names (book_of all) e.script.lines refl) (writes-part c.from_residual-in_err-ends-in-Ask.result _ _ _ _ c.from_residual-in_err-ends-in-Ask.ensures.1 part)
 
 pub returns-clause-text : goal.returns-clause-text

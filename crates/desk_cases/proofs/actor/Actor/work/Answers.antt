@@ -1,5 +1,11 @@
-use Rattle.std.proofs.Common.{Ok, ap, refl, ◌∙◌, arith}
-use Rattle.desk_cases.proofs.Playing.{claimed-seen, keeps-claim, plays-on}
+use Rattle.std.proofs.Common.{Ok, ap, refl, subst, ◌∙◌, arith}
+use Rattle.std.specs.Prelude.{Result}
+use Rattle.act_num.specs.declared.NoMemory.{NoMemory}
+use Rattle.act_board.specs.declared.outcome.Claim.{Claim}
+use Rattle.act_desk.specs.Calls.{ClaimsOrNot}
+use Rattle.act_desk.specs.Step.{IsStep}
+use Rattle.act_desk.proofs.Watching.{claimed-seen}
+use Rattle.desk_cases.proofs.Playing.{keeps-claim, plays-on}
 use Rattle.desk_cases.proofs.actor.Actor.work.Goals as goal
 
 pub make-requires-clause-plays : goal.make-requires-clause-plays
@@ -8,7 +14,8 @@ make-requires-clause-plays g c =
 
 pub make-requires-clause-task : goal.make-requires-clause-task
 make-requires-clause-task g c =
-    claimed-seen _ _ _ c.requires.plays.of.history c.in-Ok-Task.task c.requires.plays.of.seen c.claim.ensures (c.in-Ok-Task.is ∙ ap Ok c.in-Ok-Task.field-0-is)
+    claimed-seen c.args.pass.now.number c.args.pass.now c.claim.new.pass refl c.requires.plays.of.history c.requires.plays.of.seen c.in-Ok-Task.task
+    (subst (λ (answer : Result Claim NoMemory). IsStep c.args.pass.now (ClaimsOrNot answer) c.claim.new.pass) (c.in-Ok-Task.is ∙ ap Ok c.in-Ok-Task.field-0-is) c.claim.ensures)
 
 pub returns-in-Ok-Idle : goal.returns-in-Ok-Idle
 returns-in-Ok-Idle g c =

@@ -1,0 +1,46 @@
+//! Bells that threads sleep by.
+use std::sync::Wait;
+use std::sync::atomic::{AtomicU64, Ordering};
+
+/// Rings when something has changed, for threads that sleep until then. A thread counts the rings before it looks at what may have
+/// changed, and then sleeps only if none has come since.
+#[derive(Drop)]
+pub(crate) struct Bell {
+    rings: AtomicU64,
+}
+
+impl Bell {
+    /// A bell that hasn't rung.
+    pub(crate) fn new() -> Bell {
+        Bell {
+            rings: AtomicU64::new(0),
+        }
+    }
+
+    /// How often it has rung.
+    pub(crate) fn rings(&self) -> u64 {
+        self.rings.load(Ordering::SeqCst)
+    }
+
+    /// Rings for one thread that sleeps.
+    pub(crate) fn ring_one(&self) {
+        self.rings.fetch_add(1, Ordering::SeqCst);
+        self.rings.wake_one();
+    }
+
+    /// Rings for all threads that sleep.
+    pub(crate) fn ring_all(&self) {
+        self.rings.fetch_add(1, Ordering::SeqCst);
+        self.rings.wake_all();
+    }
+
+    /// Wakes one thread more that still sleeps.
+    pub(crate) fn wake_one(&self) {
+        self.rings.wake_one();
+    }
+
+    /// Sleeps until it rings, unless it has rung more often than that; a sleep may also end for no reason.
+    pub(crate) fn sleep<R: Wait>(&self, rt: &R, rings: u64) {
+        self.rings.park(rt, (rings & 0xffff_ffff) as u32);
+    }
+}

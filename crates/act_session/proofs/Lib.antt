@@ -1,0 +1,7 @@
+pub mod Closed
+pub mod Lists
+pub mod Marks
+pub mod Moving
+pub mod Played
+pub mod Playing
+pub mod Together

@@ -1,0 +1,63 @@
+use Rattle.std.proofs.Common.{◌≡◌, ℕ, ◌∙◌, List, Vec, All, length, take, ap, sym, subst, arith}
+use Rattle.std.specs.declared.alloc.Global.{Global}
+use Rattle.std.proofs.lemmas.List.{length-map, take_at}
+use mathlib.Core.List.{IsPrefix}
+use Rattle.act_model.specs.declared.journal.Line.{Line}
+use Rattle.act_turn.specs.Journal.{entries_of}
+use Rattle.act_turn.specs.Standing.{IsFree, Standing, own_entries}
+use Rattle.act_board.specs.Entries.{author_of, list_of}
+use Rattle.act_board.specs.declared.history.Entry.{Entry}
+use Rattle.act_session.specs.Playing.{lines_of}
+use Rattle.act_session.specs.Seats.{answers_at, passes_of}
+use Rattle.act_session.specs.declared.actor.Actor.{Actor}
+use Rattle.act_session.proofs.Closed.{all-free, closed-answered, closed-own, closed-played}
+use Rattle.act_session.proofs.threads.end.Goals as goal
+
+pub close-board-requires-clause-free : goal.close-board-requires-clause-free
+close-board-requires-clause-free c =
+    let a = c.take_answers-taken.auto.actors in let b = c.as_mut_slice.ensures.len in
+    let same : c.rise.new.passes.items ≡ passes_of c.args.actors.items =
+    c.rise.ensures.passes ∙ (ap passes_of (take_at c.take_answers-taken.new.actors _ c.args.actors.len (omega (arith, a, b))) ∙ (c.take_answers-taken.ensures.passes ∙ ap passes_of c.as_mut_slice.ensures.value)) in
+    subst (All (IsFree c.args.desk.id)) (sym same) (all-free c.args.desk (lines_of c.args.scripts.now) c.args.actors.items c.requires.played)
+
+pub returns-in-Some-clause-board : goal.returns-in-Some-clause-board
+returns-in-Some-clause-board c =
+    let a = c.take_answers-taken.auto.actors in let b = c.as_mut_slice.ensures.len in
+    let same : c.rise.new.passes.items ≡ passes_of c.args.actors.items =
+    c.rise.ensures.passes ∙ (ap passes_of (take_at c.take_answers-taken.new.actors _ c.args.actors.len (omega (arith, a, b))) ∙ (c.take_answers-taken.ensures.passes ∙ ap passes_of c.as_mut_slice.ensures.value)) in
+    let count = length-map c.args.scripts.now (λ (script : Vec Line Global). script.items) in
+    let enough = c.requires.callers in
+    closed-played c.args.desk (lines_of c.args.scripts.now) c.args.actors.items c.requires.played c.requires.scripts c.close-board.result c.journal.ensures.sound
+    (subst (All (λ (p : Standing Entry). IsPrefix p.seen (list_of c.close-board.result))) same c.close-board.ensures.begins)
+    (subst (All (λ (p : Standing Entry). entries_of author_of p.number (list_of c.close-board.result) ≡ own_entries author_of p)) same c.close-board.ensures.own)
+    c.in-Some.answers.items (omega (arith, count, enough))
+    (c.in-Some.ensures.answers
+    ∙ (ap (λ (actors : List Actor). take (length c.args.scripts.now) (answers_at actors)) c.as_mut_slice.ensures.value ∙ ap (λ (n : ℕ). take n (answers_at c.args.actors.items)) (sym count)))
+
+pub returns-in-Some-clause-own : goal.returns-in-Some-clause-own
+returns-in-Some-clause-own c =
+    let a = c.take_answers-taken.auto.actors in let b = c.as_mut_slice.ensures.len in
+    let same : c.rise.new.passes.items ≡ passes_of c.args.actors.items =
+    c.rise.ensures.passes ∙ (ap passes_of (take_at c.take_answers-taken.new.actors _ c.args.actors.len (omega (arith, a, b))) ∙ (c.take_answers-taken.ensures.passes ∙ ap passes_of c.as_mut_slice.ensures.value)) in
+    let count = length-map c.args.scripts.now (λ (script : Vec Line Global). script.items) in
+    let enough = c.requires.callers in
+    closed-own c.args.desk (lines_of c.args.scripts.now) c.args.actors.items c.requires.played c.requires.scripts c.close-board.result c.journal.ensures.sound
+    (subst (All (λ (p : Standing Entry). IsPrefix p.seen (list_of c.close-board.result))) same c.close-board.ensures.begins)
+    (subst (All (λ (p : Standing Entry). entries_of author_of p.number (list_of c.close-board.result) ≡ own_entries author_of p)) same c.close-board.ensures.own)
+    c.in-Some.answers.items (omega (arith, count, enough))
+    (c.in-Some.ensures.answers
+    ∙ (ap (λ (actors : List Actor). take (length c.args.scripts.now) (answers_at actors)) c.as_mut_slice.ensures.value ∙ ap (λ (n : ℕ). take n (answers_at c.args.actors.items)) (sym count)))
+
+pub returns-in-Some-clause-answers : goal.returns-in-Some-clause-answers
+returns-in-Some-clause-answers c =
+    let a = c.take_answers-taken.auto.actors in let b = c.as_mut_slice.ensures.len in
+    let same : c.rise.new.passes.items ≡ passes_of c.args.actors.items =
+    c.rise.ensures.passes ∙ (ap passes_of (take_at c.take_answers-taken.new.actors _ c.args.actors.len (omega (arith, a, b))) ∙ (c.take_answers-taken.ensures.passes ∙ ap passes_of c.as_mut_slice.ensures.value)) in
+    let count = length-map c.args.scripts.now (λ (script : Vec Line Global). script.items) in
+    let enough = c.requires.callers in
+    closed-answered c.args.desk (lines_of c.args.scripts.now) c.args.actors.items c.requires.played c.requires.scripts c.close-board.result c.journal.ensures.sound
+    (subst (All (λ (p : Standing Entry). IsPrefix p.seen (list_of c.close-board.result))) same c.close-board.ensures.begins)
+    (subst (All (λ (p : Standing Entry). entries_of author_of p.number (list_of c.close-board.result) ≡ own_entries author_of p)) same c.close-board.ensures.own)
+    c.in-Some.answers.items (omega (arith, count, enough))
+    (c.in-Some.ensures.answers
+    ∙ (ap (λ (actors : List Actor). take (length c.args.scripts.now) (answers_at actors)) c.as_mut_slice.ensures.value ∙ ap (λ (n : ℕ). take n (answers_at c.args.actors.items)) (sym count)))

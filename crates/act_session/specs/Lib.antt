@@ -1,0 +1,3 @@
+pub mod Interleaving
+pub mod Playing
+pub mod Seats

@@ -1,0 +1,45 @@
+//! A caller or a worker of a session.
+ghost use Rattle.std.specs.Prelude.{◌≡◌};
+ghost use Rattle.act_session.specs.Playing.{ArePlayable, HasPlayed, first_pass, lines_of};
+
+use act_desk::{Desk, DeskPass};
+use act_io::Gate;
+use act_model::{Answer, Line};
+use std::alloc::Global;
+use std::sync::Wait;
+
+/// A caller or a worker: its pass, and the answers of a caller that has made its lines.
+pub(crate) struct Actor {
+    pub(crate) pass: DeskPass,
+    pub(crate) answers: Option<Vec<Answer>>,
+}
+
+impl Actor {
+    /// Plays the part of a place: that of the caller of the script there, or behind the scripts that of a worker. A caller has no
+    /// answers where memory ran out.
+    pub(crate) fn play<R: Wait, G: Gate>(
+        &mut self,
+        rt: &R,
+        alloc: Global,
+        desk: &Desk,
+        place: usize,
+        scripts: &[Vec<Line>],
+        gate: &G,
+    )
+        requires scripts { ArePlayable desk.now.portfolio (lines_of scripts.now) }
+        requires first { self.old.pass ≡ first_pass desk.now (lines_of scripts.now) place }
+        ensures { HasPlayed desk.now (lines_of scripts.now) place self.new.pass self.new.answers }
+    {
+        match scripts.get(place) {
+            Some(lines) => {
+                let number = place as u32 + 1;
+                self.answers = desk
+                    .caller(rt, alloc, &mut self.pass, number, lines, gate)
+                    .ok();
+            }
+            None => {
+                let _ = desk.worker(rt, alloc, &mut self.pass, gate);
+            }
+        }
+    }
+}

@@ -1,0 +1,15 @@
+use Rattle.std.proofs.Common.{◌≡◌, drop}
+use Rattle.std.specs.Prelude.{◌&&◌}
+use Rattle.std.specs.List.{list_all}
+use Rattle.act_top.specs.Output.{ends_well}
+use Rattle.act_top.specs.Ready.{answers_text}
+use Rattle.act_top.proofs.Texts.{Left}
+use Rattle.act_top.proofs.transcript.write_answer_list.Given as goal
+
+-- the answers from this one on are still to be written
+abbrev pub invariant-loop-answer : goal.invariant-loop-answer
+invariant-loop-answer g l = record {
+  text : Left (answers_text l.names l.answers) (answers_text l.names (drop l.answer-index l.answers)) (g.K.Sink.written l.fn.out) (g.K.Sink.written l.out);
+  ends : (l.ended && list_all ends_well (drop l.answer-index l.answers)) ≡ list_all ends_well l.answers;
+  faults : g.K.Sink.faults l.out ≡ g.K.Sink.faults l.fn.out;
+}

@@ -1,0 +1,63 @@
+use Rattle.std.proofs.Common.{◌≡◌, ◌+◌, Bool, ℕ, List, drop, get_or, refl, sym, ap, ◌∙◌, arith}
+use Rattle.std.specs.Prelude.{◌&&◌}
+use Rattle.std.specs.Arc.{arc_value}
+use Rattle.std.specs.declared.alloc.Global.{Global}
+use Rattle.std.specs.declared.sync.Arc.{Arc}
+use Rattle.std.proofs.Math.Bool.{and_assoc, and-true}
+use Rattle.std.proofs.lemmas.List.{get_or-map, length-map}
+use Rattle.act_model.specs.Run.{Stream}
+use Rattle.act_print.specs.Printed.{printed_block}
+use Rattle.act_print.specs.Text.{block_text}
+use Rattle.act_top.specs.Output.{all_end, is_end}
+use Rattle.act_top.specs.Ready.{runs_text, shared_runs}
+use Rattle.act_top.proofs.Texts.{drop-next, drop-past, left-all, left-next, left-none, left-part, writes-part}
+use Rattle.act_top.proofs.transcript.write_blocks.Goals as goal
+
+pub loop-run-init : goal.loop-run-init
+loop-run-init g c = record { text = left-all _ _; ends = refl; faults = refl }
+
+pub write_block-requires : goal.write_block-requires
+write_block-requires g c =
+    let runs = c.args.runs.now in
+    let i = c.loop-run.run-index in
+    let item = c.run-item.result in
+    let within = c.loop-run-test.true in
+    let named = c.requires i (item.0, arc_value item.1) (omega (arith, within, length-map {B = ℕ × Stream} runs (λ (run : ℕ × Arc Stream Global). (run.0, arc_value run.1)))) in
+    let here : get_or (shared_runs runs) i (item.0, arc_value item.1) ≡ (item.0, arc_value item.1) = get_or-map (λ (run : ℕ × Arc Stream Global). (run.0, arc_value run.1)) runs i item (item.0, arc_value item.1) within ∙ ap (λ (run : ℕ × Arc Stream Global). (run.0, arc_value run.1)) (sym c.run-item.is) in
+    omega (arith, named, ap (λ (run : ℕ × Stream). run.0) here)
+
+pub loop-run-preserved : goal.loop-run-preserved
+loop-run-preserved g c =
+    let names = c.args.names.now in
+    let runs = c.args.runs.now in
+    let i = c.loop-run.run-index in
+    let item = c.run-item.result in
+    let here = drop-next runs i item c.loop-run-test.true c.run-item.is in
+    let rest = shared_runs (drop (i + 1) runs) in
+    let ends_so : c.in_ok-ends.ends ≡ is_end (arc_value item.1).close = c.in_ok-ends.ensures.ended ∙ ap (λ (run : Stream). is_end run.close) c.deref.ensures in
+    record {
+      text = left-next _ _ (block_text names (printed_block (item.0, arc_value item.1))) _ _ _ _ c.loop-run.invariant.text (ap (λ (rs : List (ℕ × Arc Stream Global)). runs_text names (shared_runs rs)) here) (rw c.deref.ensures at c.in_ok-ends.ensures.text);
+      ends = and_assoc c.loop-run.ended c.in_ok-ends.ends (all_end rest)
+          ∙ (ap (λ (b : Bool). c.loop-run.ended && (b && all_end rest)) ends_so
+          ∙ (ap (λ (rs : List (ℕ × Arc Stream Global)). c.loop-run.ended && all_end (shared_runs rs)) (sym here) ∙ c.loop-run.invariant.ends));
+      faults = c.in_ok-ends.ensures.faults ∙ c.loop-run.invariant.faults;
+    }
+
+pub returns-in_err-ends-clause-text : goal.returns-in_err-ends-clause-text
+returns-in_err-ends-clause-text g c =
+    let names = c.args.names.now in
+    let runs = c.args.runs.now in
+    let item = c.run-item.result in
+    let here = drop-next runs c.loop-run.run-index item c.loop-run-test.true c.run-item.is in
+    writes-part c.from_residual.result _ _ _ _ c.from_residual.ensures.1
+    (left-part c.in_err-ends.field-0.0 _ _ (block_text names (printed_block (item.0, arc_value item.1))) _ _ _ _ c.loop-run.invariant.text (ap (λ (rs : List (ℕ × Arc Stream Global)). runs_text names (shared_runs rs)) here) (rw c.deref.ensures at c.in_err-ends.ensures.text))
+
+pub returns-clause-text : goal.returns-clause-text
+returns-clause-text g c =
+    let none = drop-past c.args.runs.now c.loop-run.run-index c.loop-run-test.false in
+    left-none _ _ _ _ c.loop-run.invariant.text (ap (λ (rs : List (ℕ × Arc Stream Global)). runs_text c.args.names.now (shared_runs rs)) none)
+
+pub returns-clause-ended : goal.returns-clause-ended
+returns-clause-ended g c =
+    let none = drop-past c.args.runs.now c.loop-run.run-index c.loop-run-test.false in
+    sym (and-true c.loop-run.ended) ∙ (ap (λ (rs : List (ℕ × Arc Stream Global)). c.loop-run.ended && all_end (shared_runs rs)) (sym none) ∙ c.loop-run.invariant.ends)
