@@ -1,0 +1,2 @@
+pub mod Causality
+pub mod Example
