@@ -29,9 +29,9 @@ unread contracts c one other linked within same =
 
 -- ---- runs that agree keep the same
 
-kept-same : (day : ℤ) (one other : Stream) → RunsAgreeBefore day one other → kept_of one (Some day) ≡ kept_of other (Some day)
+pub kept_same : (day : ℤ) (one other : Stream) → RunsAgreeBefore day one other → kept_of one (Some day) ≡ kept_of other (Some day)
 unfolding kept_of
-kept-same day one other agree =
+kept_same day one other agree =
     elim (cases_Bool (stops_before day one)) [
       | inl stops ↦ ap (λ (run : Stream). kept_of run (Some day)) (agree.whole (inl stops))
       | inr goes_on ↦ elim (cases_Bool (stops_before day other)) [
@@ -110,7 +110,7 @@ kept-by contracts c entries u w None linked within order range is =
 kept-by contracts c entries u w (Some day) linked within order range is =
     let codes = codes_read contracts c in
     let reads = contracts_read contracts c in
-    kept-same day (run_of contracts (take u entries) c) (run_of contracts (take w entries) c)
+    kept_same day (run_of contracts (take u entries) c) (run_of contracts (take w entries) c)
     (causality contracts c day (take u entries) (take w entries) linked within
     (least_of-all (λ d. d ≤ℤ last_day) (map day_of_entry (between codes reads u w entries order)) day
     (all-days (between codes reads u w entries order) (all-filter (λ entry. day_of_entry entry ≤ℤ last_day) (touches codes reads) (drop u (take w entries)) (all-drop (λ entry. day_of_entry entry ≤ℤ last_day) u (take w entries) (all-take (λ entry. day_of_entry entry ≤ℤ last_day) w entries range)))) is)

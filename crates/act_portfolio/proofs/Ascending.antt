@@ -6,7 +6,7 @@ use Rattle.std.proofs.lemmas.List.Kept.{AllPairs-from_increasing, Contains-dedup
 use Rattle.std.proofs.lemmas.List.Sorted.{Contains-permutation, IsPermutation-sym}
 use Rattle.std.proofs.lemmas.Map.Keys.{IsStrictlyIncreasing-dedup}
 use Rattle.std.specs.List.{AllPairs, Contains, dedup}
-use Rattle.std.specs.List.Sorted.{IsPermutation, IsSorted}
+use Rattle.std.specs.List.Sorted.{IsPermutation, IsSorted, IsStrictlyIncreasing}
 use Rattle.act_profile.specs.Lists.{insert_once_by}
 use Rattle.act_profile.specs.Reads.{ascending}
 
@@ -193,3 +193,15 @@ few_between a n (x ∷ xs) up within all =
 
 pub few_ascend : (numbers : List ℕ) (n : ℕ) → ((c : ℕ) → In c numbers → c < n) → length (ascending numbers) ≤ n
 few_ascend numbers n all = let few = few_between 0 n (ascending numbers) (ascending_rises numbers) (omega arith) (λ c is. (omega arith, all c (ascending_in c numbers is))) in omega arith
+
+-- a list that rises increases from each number to the next
+increasing-from_rises : (xs : List ℕ) → Rises xs → IsStrictlyIncreasing xs
+increasing-from_rises [] up k within = absurd (omega arith)
+increasing-from_rises (x ∷ []) up k within = absurd (omega arith)
+increasing-from_rises (x ∷ y ∷ xs) up zero within = up.0.0
+increasing-from_rises (x ∷ y ∷ xs) up (suc k) within =
+    let next : suc k + 1 ≡ suc (k + 1) = omega arith in
+    rw next (increasing-from_rises (y ∷ xs) up.1 k (omega arith))
+
+pub ascending_increases : (numbers : List ℕ) → IsStrictlyIncreasing (ascending numbers)
+ascending_increases numbers = increasing-from_rises (ascending numbers) (ascending_rises numbers)

@@ -1,11 +1,10 @@
 -- A portfolio put together from its contracts, their graph and their plans.
-use Rattle.std.proofs.Common.{◌≡◌, ℕ, zero, ◌+◌, ◌≤◌, List, ◌++◌, length, map, Ok, Some, option_map, refl, ap, sym, subst, ◌∙◌, arith, slice_get}
-use Rattle.std.proofs.lemmas.List.{get_or_append_left, length-append, length-map, map-append}
+use Rattle.std.proofs.Common.{◌≡◌, ℕ, zero, ◌+◌, ◌≤◌, List, ◌++◌, length, map, None, Ok, refl, ap, sym, subst, ◌∙◌, arith}
+use Rattle.std.proofs.lemmas.List.{length-append, length-map, map-append}
 use Rattle.std.proofs.lemmas.List.Elements.{All-append}
-use Rattle.std.proofs.lemmas.List.Elements.{All-get_or}
-use Rattle.std.proofs.lemmas.Option.{get_or_from_slice_get, same_Some, slice_get-get_or, slice_get-map, slice_get_within}
 use Rattle.std.proofs.lemmas.Slice.Zip.{length-zip}
 use Rattle.std.specs.List.{All, filter_map, zip}
+use Rattle.act_causality.specs.Causality.{IsLinked}
 use Rattle.act_model.specs.Names.{NameLists}
 use Rattle.act_model.specs.Reads.{Readings}
 use Rattle.act_model.specs.Run.{EventPlan}
@@ -16,28 +15,16 @@ use Rattle.act_profile.specs.Plan.{plan_of}
 use Rattle.act_terms.specs.Contract.{NamedTerms}
 use Rattle.act_portfolio.specs.Binding.{bound, bound_terms, children_with_shadows, shadow_of, with_shadows}
 use Rattle.act_portfolio.specs.Cones.{AreCones, AreRanks}
-use Rattle.act_portfolio.specs.Known.{HavePlans, IsContract, IsGraph, IsPortfolio, count_with_shadows, portfolio_with}
-use Rattle.act_portfolio.specs.Links.{listing_of}
+use Rattle.act_portfolio.specs.Known.{AreNumbered, HavePlans, IsContract, IsGraph, IsPortfolio, count_with_shadows, portfolio_with}
+use Rattle.act_portfolio.specs.Links.{first_unfit, listing_of}
 use Rattle.act_portfolio.specs.Reading.{IsAccepted, plans_from}
 use Rattle.act_portfolio.proofs.Graphed.{AreWithin}
+use Rattle.act_portfolio.proofs.Kept.{plan_each}
+use Rattle.act_portfolio.proofs.Linked.{are_linked}
+use Rattle.act_portfolio.proofs.Lists.{all_at, slice_get_before}
 use Rattle.act_portfolio.proofs.PlannedSoFar.{each_planned}
 use Rattle.act_portfolio.proofs.Shadowed.{as_many_numbers}
 use Rattle.act_portfolio.proofs.Unchanged.{all_terms_built, bound_built, same_plans, shadows_built}
-
--- what holds of all holds of one that is there
-all_at : {A : Type 0} (P : A → Type 0) (xs : List A) → All P xs → (c : ℕ) (x : A) → slice_get xs c ≡ Some x → P x
-all_at P xs all c x here = rw (get_or_from_slice_get xs c x x here) at (All-get_or P xs c x (slice_get_within xs c x here) all)
-
--- one of those before others is there with these behind it
-slice_get_before : {A : Type 0} (xs ys : List A) (c : ℕ) (x : A) → slice_get xs c ≡ Some x → slice_get (xs ++ ys) c ≡ Some x
-slice_get_before xs ys c x here =
-    let within = slice_get_within xs c x here in
-    slice_get-get_or (xs ++ ys) c x (omega (arith, length-append xs ys)) ∙ ap Some (get_or_append_left xs ys x c within ∙ get_or_from_slice_get xs c x x here)
-
--- the plan of each
-plan_each : (terms : List Terms) (plans : List EventPlan) → map plan_of terms ≡ map Ok plans → (c : ℕ) (t : Terms) (plan : EventPlan) → slice_get terms c ≡ Some t → slice_get plans c ≡ Some plan → plan_of t ≡ Ok plan
-plan_each terms plans planned c t plan here there =
-    same_Some _ _ (sym (slice_get-map plan_of terms c ∙ ap (option_map plan_of) here) ∙ ap (λ l. slice_get l c) planned ∙ slice_get-map Ok plans c ∙ ap (option_map Ok) there)
 
 module _ (named : List NamedTerms) (numbers : List ℕ) (shadows : List Terms) (lists : List (List ℕ)) (order : List ℕ) (graph : IsGraph named numbers shadows lists order) (known : All IsContract named) (few : count_with_shadows named ≤ 4096) where
   pub many_numbers : length numbers ≡ length named
@@ -92,15 +79,19 @@ module _ (named : List NamedTerms) (numbers : List ℕ) (shadows : List Terms) (
       terms_are : terms ≡ bound_terms named plans
       terms_are = bound_as ∙ rw (graph.shadows, graph.numbers) refl
 
+      linked : first_unfit named ≡ None → AreNumbered named → IsLinked (record { terms = terms; plans = plans; children = lists })
+      linked fit places = rw (terms_are, graph.children) (are_linked named plans fit places (ap (map plan_of) (sym terms_are) ∙ planned_all))
+
       module _ (names : NameLists) (unused : List (List (List ℕ))) (ids : names.contracts ≡ map (λ (c : NamedTerms). c.id) named) (all_unused : length unused ≡ length named) where
-        pub is_accepted : IsAccepted names (record { terms = terms; plans = plans; children = lists }) order unused
-        is_accepted =
+        is_accepted : first_unfit named ≡ None → AreNumbered named → IsAccepted names (record { terms = terms; plans = plans; children = lists }) order unused
+        is_accepted fit places =
             let many_ids : length names.contracts ≡ length named = ap length ids ∙ length-map named (λ (c : NamedTerms). c.id) in
             let many_lists : length lists ≡ length terms = graph.count ∙ sym many_terms in
             let le = few_all in
             record {
               built = λ c t here. all_at (λ (t : Terms). IsBuilt t.kind) terms built_all c t here;
               planned = planned_all;
+              linked = linked fit places;
               children = many_lists;
               numbered = subst (λ (m : ℕ). All (AreWithin m) lists) many_lists graph.exist;
               ordered = graph.ordered;
@@ -115,10 +106,10 @@ module _ (named : List NamedTerms) (numbers : List ℕ) (shadows : List Terms) (
             ∙ ap (λ ts. Ok (record { names = names; contracts = record { terms = ts; plans = plans; children = children_with_shadows named }; order = order; unused = unused })) (sym terms_are)
             ∙ ap (λ ls. Ok (record { names = names; contracts = record { terms = terms; plans = plans; children = ls }; order = order; unused = unused })) (sym graph.children))
 
-        pub is_kept : (ranks counts weights : List ℕ) (reads : List Readings) → AreRanks (length lists) order ranks → AreCones (record { terms = terms; plans = plans; children = lists }) counts weights reads
+        pub is_kept : first_unfit named ≡ None → AreNumbered named → (ranks counts weights : List ℕ) (reads : List Readings) → AreRanks (length lists) order ranks → AreCones (record { terms = terms; plans = plans; children = lists }) counts weights reads
             → IsPortfolio (record { names = names; contracts = record { terms = terms; plans = plans; children = lists }; order = order; unused = unused }) ranks counts weights reads
-        is_kept ranks counts weights reads ranked cones = record {
-          accepted = is_accepted;
+        is_kept fit places ranks counts weights reads ranked cones = record {
+          accepted = is_accepted fit places;
           ranks = subst (λ (m : ℕ). AreRanks m order ranks) (graph.count ∙ sym many_terms) ranked;
           cones = cones;
         }

@@ -1,9 +1,10 @@
 -- What contracts refer to, where their references fit: each cap and floor has a shadow, and all children are contracts.
-use Rattle.std.proofs.Common.{◌≡◌, ℕ, suc, ◌+◌, ◌<◌, ◌≤◌, ◌⊎◌, Vec, subst, Bool, true, false, List, [], ◌∷◌, ◌++◌, length, map, Option, Some, None, option_and_then, inl, inr, refl, ap, sym, ◌∙◌, arith}
+use Rattle.std.proofs.Common.{◌≡◌, ℕ, zero, suc, ◌+◌, ◌<◌, ◌≤◌, ◌⊎◌, Vec, subst, Bool, true, false, List, [], ◌∷◌, ◌++◌, length, map, Option, Some, None, option_and_then, inl, inr, refl, ap, sym, ◌∙◌, append_assoc, arith}
 use Rattle.std.proofs.lemmas.List.{length-append, length-map}
 use Rattle.std.proofs.lemmas.List.Elements.{All-append, All-cons, All-map, All-nil}
 use Rattle.std.proofs.lemmas.List.Quantifiers.{position-Some}
 use Rattle.std.proofs.lemmas.List.Sums.{sum_by-cons}
+use Rattle.std.proofs.lemmas.Option.{same_Some}
 use Rattle.std.proofs.lemmas.Slice.Zip.{length-zip}
 use Rattle.std.specs.List.{All, cons_option, enumerate_from, filter_map, slice_get, zip}
 use Rattle.std.specs.Str.{bytes_eq}
@@ -14,10 +15,11 @@ use Rattle.act_model.specs.declared.terms.Terms.{Terms}
 use Rattle.act_terms.specs.Contract.{NamedTerms}
 use Rattle.act_terms.specs.Reference.{Reference, Target, to_contract, to_market}
 use Rattle.act_terms.specs.declared.reference.ReferenceRole.{ReferenceRole}
-use Rattle.act_portfolio.specs.Binding.{behind, children_by, children_of, children_with_shadows, kind_within, numbered, shadow_by, shadow_common, shadow_numbers, shadow_of, shadow_on, shadow_with}
+use Rattle.act_portfolio.specs.Binding.{Numbered, behind, children_by, children_of, children_with_shadows, kind_within, numbered, shadow_by, shadow_common, shadow_numbers, shadow_of, shadow_on, shadow_with}
 use Rattle.act_portfolio.specs.Known.{count_with_shadows}
 use Rattle.act_portfolio.specs.Links.{Linked, Listing, capped_of, contract_of, first_unfit, first_unknown, fits_kind, is_capped, linked, linked_by, listing_of, may_be_capped, refused_by, terms_at, unfit}
 use Rattle.act_portfolio.specs.Reading.{counts_as}
+use Rattle.act_portfolio.proofs.Lists.{first_behind}
 use Rattle.act_portfolio.proofs.Shadowed.{as_many_numbers}
 
 -- ---- the references of each contract fit
@@ -46,6 +48,12 @@ all_fit_from listing place (c ∷ contracts) none =
 pub all_fit : (contracts : List NamedTerms) → first_unfit contracts ≡ None → AllFit (listing_of contracts) contracts
 all_fit contracts none = all_fit_from (listing_of contracts) 0 contracts none
 
+-- those of one that is there do
+pub fits_at : (listing : Listing) (contracts : List NamedTerms) → AllFit listing contracts → (c : ℕ) (n : NamedTerms) → slice_get contracts c ≡ Some n → fits_kind listing n.terms.kind n.references ≡ true
+fits_at listing [] fit c n here = absurd (cc)
+fits_at listing (x ∷ contracts) fit zero n here = let same : x ≡ n = same_Some _ _ here in rw (← same) fit.0
+fits_at listing (x ∷ contracts) fit (suc c) n here = fits_at listing contracts fit.1 c n here
+
 -- ---- shadows
 
 -- a contract has no shadow and counts as one, or has one and counts as two
@@ -62,7 +70,7 @@ pub record HasOne (listing : Listing) (c : NamedTerms) (n : ℕ) : Type 0 where
   behind : behind c.terms.kind n ≡ suc n
   children : children_of listing (c, n) ≡ map (λ (l : Linked). l.1) (linked listing c.references) ++ n ∷ []
 
-within : (capfl : Capfl) (k : Kind) → may_be_capped k ≡ true → (own : Kind) × (kind_within capfl k ≡ Some own)
+pub within : (capfl : Capfl) (k : Kind) → may_be_capped k ≡ true → (own : Kind) × (kind_within capfl k ≡ Some own)
 within capfl (kind.PAM pam) may = (_, refl)
 within capfl (kind.LAM lam) may = (_, refl)
 within capfl (kind.NAM nam) may = (_, refl)
@@ -130,6 +138,29 @@ as_many listing next (c ∷ contracts) fit =
           let same : shadows_from listing next (c ∷ contracts) ≡ some.shadow ∷ shadows_from listing (suc next) contracts = first_shadow listing next c contracts ∙ rw (some.some, some.behind) refl in
           let rest = as_many listing (suc next) contracts fit.1 in
           omega (arith, count, some.two, rest, ap length same)
+    ]
+
+-- a shadow stands at its number, where so many terms stand before the shadows
+pub shadow_at : (listing : Listing) (next : ℕ) (contracts : List NamedTerms) (before : List Terms) → length before ≡ next → AllFit listing contracts → (c : ℕ) (n : Numbered) (s : Terms) → slice_get (zip contracts (shadow_numbers next contracts)) c ≡ Some n
+    → shadow_of listing n ≡ Some s → slice_get (before ++ shadows_from listing next contracts) n.1 ≡ Some s
+unfolding shadow_numbers
+shadow_at listing next [] before many fit c n s here is = absurd (cc)
+shadow_at listing next (x ∷ contracts) before many fit zero n s here is =
+    let same : (x, next) ≡ n = same_Some _ _ here in
+    let more = shadows_from listing (behind x.terms.kind next) contracts in
+    let first : shadows_from listing next (x ∷ contracts) ≡ s ∷ more = first_shadow listing next x contracts ∙ ap (λ o. cons_option o more) (ap (shadow_of listing) same ∙ is) in
+    ap (λ ts. slice_get (before ++ ts) n.1) first ∙ ap (slice_get (before ++ s ∷ more)) (ap (λ (m : Numbered). m.1) (sym same) ∙ sym many) ∙ first_behind before s more
+shadow_at listing next (x ∷ contracts) before many fit (suc c) n s here is =
+    elim (has_shadow listing x next fit.0) [
+      | inl none ↦
+          let same : shadows_from listing next (x ∷ contracts) ≡ shadows_from listing next contracts = first_shadow listing next x contracts ∙ rw (none.none, none.behind) refl in
+          ap (λ ts. slice_get (before ++ ts) n.1) same ∙ shadow_at listing next contracts before many fit.1 c n s (ap (λ k. slice_get (zip contracts (shadow_numbers k contracts)) c) (sym none.behind) ∙ here) is
+      | inr some ↦
+          let more = shadows_from listing (suc next) contracts in
+          let same : shadows_from listing next (x ∷ contracts) ≡ some.shadow ∷ more = first_shadow listing next x contracts ∙ rw (some.some, some.behind) refl in
+          let longer : length (before ++ some.shadow ∷ []) ≡ suc next = omega (arith, length-append before (some.shadow ∷ []), many) in
+          ap (λ ts. slice_get (before ++ ts) n.1) same ∙ (ap (λ ts. slice_get ts n.1) (sym (append_assoc before (some.shadow ∷ []) more))
+          ∙ shadow_at listing (suc next) contracts (before ++ some.shadow ∷ []) longer fit.1 c n s (ap (λ k. slice_get (zip contracts (shadow_numbers k contracts)) c) (sym some.behind) ∙ here) is)
     ]
 
 -- ---- children

@@ -32,6 +32,11 @@ plan_at terms plans planned c t plan here is =
       | inr past ↦ let none : Some (plan_of t) ≡ None = both ∙ ap (option_map Ok) past.1 in absurd (cc)
     ]
 
+-- the same of each
+pub plan_each : (terms : List Terms) (plans : List EventPlan) → map plan_of terms ≡ map Ok plans → (c : ℕ) (t : Terms) (plan : EventPlan) → slice_get terms c ≡ Some t → slice_get plans c ≡ Some plan → plan_of t ≡ Ok plan
+plan_each terms plans planned c t plan here there =
+    same_Some _ _ (sym (slice_get-map plan_of terms c ∙ ap (option_map plan_of) here) ∙ ap (λ l. slice_get l c) planned ∙ slice_get-map Ok plans c ∙ ap (option_map Ok) there)
+
 -- what holds of each list of a graph holds of one that was read
 pub list_at : (P : List ℕ → Type 0) (lists : List (Vec ℕ Global)) (n c : ℕ) (one : Vec ℕ Global) → length (map (λ v. v.items) lists) ≡ n → c < n → one ≡ get_or lists c one → All P (map (λ v. v.items) lists) → P one.items
 list_at P lists n c one count within read all =

@@ -9,9 +9,11 @@ pub mod Graphed
 pub mod Joined
 pub mod Kept
 pub mod Limited
+pub mod Linked
 pub mod Listed
 pub mod Lists
 pub mod NamedSoFar
+pub mod Numbered
 pub mod PlannedSoFar
 pub mod Ranked
 pub mod ReadSoFar

@@ -8,6 +8,7 @@ use Rattle.act_model.specs.Reads.{Readings}
 use Rattle.act_model.specs.Run.{EventPlan}
 use Rattle.act_model.specs.declared.terms.Terms.{Terms}
 use Rattle.act_profile.specs.Built.{IsBuilt}
+use Rattle.act_profile.specs.Contract.{observed_as}
 use Rattle.act_profile.specs.Plan.{plan_of}
 use Rattle.act_refs.specs.Ordered.{order_of}
 use Rattle.act_terms.specs.Contract.{NamedTerms}
@@ -22,6 +23,10 @@ pub record IsContract (c : NamedTerms) : Type 0 where
   pub name : is_name c.id ≡ true
   pub no_star : bytes_eq c.id (codes "*") ≡ false
   pub built : IsBuilt c.terms.kind
+
+-- contracts have the events that are observed under their places
+pub record AreNumbered (contracts : List NamedTerms) : Type 0 where
+  pub each : (place : ℕ) (c : NamedTerms) → slice_get contracts place ≡ Some c → observed_as c.terms.common ≡ place
 
 -- how many contracts some are, with their shadows
 abbrev pub count_with_shadows : List NamedTerms → ℕ

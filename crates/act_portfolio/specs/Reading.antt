@@ -2,6 +2,7 @@
 -- refusals and their order are this profile's own.
 use Rattle.std.specs.Prelude.{◌≡◌, ℕ, zero, suc, ◌+◌, ◌<◌, ◌≤◌, ◌++◌, slice_get, nat_lt, if◌then◌else◌, is_some, List, [], ◌∷◌, length, map, Option, Some, None, Result, Ok, Err}
 use Rattle.std.specs.List.{All, zip}
+use Rattle.act_causality.specs.Causality.{IsLinked}
 use Rattle.act_json.specs.Reading.{json_of}
 use Rattle.act_model.specs.Kind.{type_of}
 use Rattle.act_model.specs.Limits.{most_contracts}
@@ -133,11 +134,12 @@ portfolio_of bytes = do
 
 -- ---- what is true of an accepted portfolio
 
--- what is asked of each contract's kind holds, and its plan is that of its terms; its children are contracts, and the order is the reference order; for each
--- contract of the file there is a name and a list of unused names; there are at most 4,096, shadows included
+-- what is asked of each contract's kind holds, and its plan is that of its terms; what its terms hold of other contracts is so; its children are contracts,
+-- and the order is the reference order; for each contract of the file there is a name and a list of unused names; there are at most 4,096, shadows included
 pub record IsAccepted (names : NameLists) (contracts : Contracts) (order : List ℕ) (unused : List (List (List ℕ))) : Type 0 where
   pub built : (c : ℕ) (t : Terms) → slice_get contracts.terms c ≡ Some t → IsBuilt t.kind
   pub planned : map plan_of contracts.terms ≡ map Ok contracts.plans
+  pub linked : IsLinked contracts
   pub children : length contracts.children ≡ length contracts.terms
   pub numbered : All (All (λ child. child < length contracts.terms)) contracts.children
   pub ordered : order_of contracts.children ≡ Ok order

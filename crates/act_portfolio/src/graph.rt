@@ -4,7 +4,7 @@ ghost use Rattle.std.specs.List.{All, zip};
 ghost use Rattle.act_profile.specs.Built.{IsBuilt};
 ghost use Rattle.act_profile.specs.Outcomes.{map_ok};
 ghost use Rattle.act_portfolio.specs.Binding.{bound, with_shadows};
-ghost use Rattle.act_portfolio.specs.Known.{HavePlans, IsContract, IsGraph, count_with_shadows, portfolio_with};
+ghost use Rattle.act_portfolio.specs.Known.{AreNumbered, HavePlans, IsContract, IsGraph, count_with_shadows, portfolio_with};
 ghost use Rattle.act_portfolio.specs.Links.{first_unfit, listing_of};
 ghost use Rattle.act_portfolio.specs.Reading.{ordered, plans_from};
 ghost use Rattle.act_portfolio.specs.Refusal.{refusal_of};
@@ -69,7 +69,9 @@ pub(crate) fn bound_portfolio(
 ) -> Result<Portfolio, PortfolioFault>
     requires names { names.contracts ≡ map (λ c. c.id) named.items }
     requires contracts { All IsContract named.items }
+    requires numbered { AreNumbered named.items }
     requires few { count_with_shadows named.items ≤ MOST_CONTRACTS }
+    requires fit { first_unfit named.items ≡ None }
     requires graph { IsGraph named.items graph.numbers.items graph.shadows.items (map (λ c. c.items) graph.children.items) graph.order.items }
     requires unused { length unused.items ≡ length named.items }
     ensures accepted { IfOk result (λ portfolio. map_ok

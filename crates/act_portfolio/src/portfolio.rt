@@ -1,6 +1,8 @@
 //! A portfolio that was accepted.
 ghost use Rattle.std.specs.Prelude.{◌≡◌, ◌^◌, ◌<◌, ◌≤◌, ℕ, Some, Ok, [], IfOk, IfErr, IfSome, length, map, slice_get, slice_index_or, string_bytes};
 ghost use Rattle.std.specs.List.{All};
+ghost use Rattle.std.specs.List.Sorted.{IsStrictlyIncreasing};
+ghost use Rattle.act_causality.specs.Causality.{IsLinked, IsWithinDepth};
 ghost use Rattle.act_profile.specs.Built.{IsBuilt};
 ghost use Rattle.act_model.specs.declared.terms.Terms.{Terms};
 ghost use Rattle.act_profile.specs.Plan.{plan_of};
@@ -13,7 +15,7 @@ ghost use Rattle.act_portfolio.specs.Refusal.{refusal_of};
 ghost use Rattle.std.specs.Prelude.{List};
 ghost use Rattle.act_model.specs.Run.{EventPlan};
 ghost use Rattle.act_model.specs.declared.observed.Obs.{Obs};
-ghost use Rattle.act_profile.specs.Run.{Contracts, run_of, run_over};
+ghost use Rattle.act_profile.specs.Run.{Contracts, deepest, run_of, run_over};
 
 use crate::cones::Cones;
 use crate::fault::PortfolioFault;
@@ -66,11 +68,13 @@ impl Portfolio {
         read_portfolio(alloc, bytes)
     }
 
-    /// The terms of the contracts, by their numbers.
+    /// The terms of the contracts, by their numbers. What they hold of other contracts is so: a cap and floor is over its
+    /// underlying and that one's shadow, and a guarantee covers its children.
     pub fn terms(&self) -> &[Terms]
         ensures terms { result.now ≡ self.now.contracts.terms }
         ensures few { length result.now ≤ MOST_CONTRACTS }
         ensures built { (c : ℕ) (t : Terms) → slice_get result.now c ≡ Some t → IsBuilt t.kind }
+        ensures linked { IsLinked self.now.contracts }
     {
         &self.terms
     }
@@ -96,13 +100,15 @@ impl Portfolio {
         &self.children[contract as usize]
     }
 
-    /// The order in which contracts are evaluated: children first, and those of one depth by number.
+    /// The order in which contracts are evaluated: children first, and those of one depth by number. A chain of references has
+    /// at most 16 contracts.
     pub fn order(&self) -> &[u32]
         ensures order { result.now ≡ self.now.order }
         ensures ordered { order_of self.now.contracts.children ≡ Ok self.now.order }
         ensures numbered { All (λ contract. contract < length self.now.contracts.terms) result.now }
         ensures exist { (parent child : ℕ) → IsChild self.now.contracts.children parent child → child < length self.now.contracts.terms }
         ensures count { length self.now.contracts.children ≡ length self.now.contracts.terms }
+        ensures within_depth { (c : ℕ) → c < length self.now.contracts.terms → IsWithinDepth deepest self.now.contracts c }
     {
         &self.order
     }
@@ -158,7 +164,9 @@ impl Portfolio {
     /// What the evaluation of a contract reads, with that of all contracts that it reaches.
     pub fn reads(&self, contract: u32) -> &Reads
         requires contract { contract < length self.now.contracts.terms }
-        ensures { result.now ≡ reads_of self.now.contracts contract }
+        ensures reads { result.now ≡ reads_of self.now.contracts contract }
+        ensures codes_ascend { IsStrictlyIncreasing result.now.codes }
+        ensures contracts_ascend { IsStrictlyIncreasing result.now.contracts }
     {
         &self.cones.reads[contract as usize]
     }

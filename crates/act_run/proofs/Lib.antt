@@ -1,6 +1,10 @@
 pub mod Before
 pub mod Chosen
 pub mod DayOrder
+pub mod FirstRows
+pub mod KeptOf
+pub mod KeptRuns
 pub mod Limited
 pub mod Observations
+pub mod Resumed
 pub mod TakenRows

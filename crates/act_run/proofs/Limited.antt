@@ -30,7 +30,7 @@ use Rattle.act_profile.specs.Stops.{chosen_close, comes_before, is_until, stop_d
 use Rattle.act_run.specs.Limits.{before_limit, closed_by, closed_so, limit_at_credit, limit_of, limit_until, limited}
 use Rattle.act_run.specs.declared.limit.Limit.{Limit}
 use Rattle.act_swap.specs.Children.{AreInDayOrder}
-use Rattle.act_run.proofs.DayOrder.{AreFrom, Ascend, RowsFrom, ascend-take, events_ascend, in_day_order, rows_are_from}
+use Rattle.act_run.proofs.DayOrder.{AreFrom, Ascend, RowsFrom, ascend-take, events_ascend, in_day_order, none_in_day_order, rows_are_from}
 use Rattle.act_run.proofs.TakenRows.{Step, taken_rows}
 
 -- ---- a step stops on its event's day
@@ -224,7 +224,7 @@ closed_rows : (close : Close) (run : Stream) (own : Close) → (closed_so close 
 closed_rows close run End = refl
 closed_rows close run own = refl
 
-closed_by_rows : (limit : Option Limit) (run : Stream) → (closed_by limit run).rows ≡ run.rows
+pub closed_by_rows : (limit : Option Limit) (run : Stream) → (closed_by limit run).rows ≡ run.rows
 closed_by_rows None run = refl
 closed_by_rows (Some limit) run = closed_rows limit.close run run.close
 
@@ -232,9 +232,20 @@ ascend_before : (limit : Option Limit) (events : List Event) → Ascend events �
 ascend_before None events up = up
 ascend_before (Some limit) events up = ascend-take (prefix_len (λ (event : Event). int_lt event.day limit.day) events) events up
 
-pub in_order_left : (terms : Terms) (plan : EventPlan) (entries : List Obs) (children : List Stream) (first : State) (limit : Option Limit) (events : List Event) → events ≡ events_of terms plan entries children
+in_order_left : (terms : Terms) (plan : EventPlan) (entries : List Obs) (children : List Stream) (first : State) (limit : Option Limit) (events : List Event) → events ≡ events_of terms plan entries children
     → AreInDayOrder (closed_by limit (rows_over terms plan entries children first (before_limit limit events))).rows
 in_order_left terms plan entries children first limit events are =
     let run = rows_over terms plan entries children first (before_limit limit events) in
     subst AreInDayOrder (sym (closed_by_rows limit run))
     (in_day_order (step_of terms plan entries children) (currency_of terms children) first (before_limit limit events) (ascend_before limit events (subst Ascend (sym are) (events_ascend terms plan entries children))))
+
+order_by : (terms : Terms) (plan : EventPlan) (entries : List Obs) (children : List Stream) (started : Result State Stop) → start_of terms plan ≡ started → AreInDayOrder (run_over terms plan entries children).rows
+order_by terms plan entries children (Ok first) starts =
+    let limit = limit_of terms.common terms.kind entries (chosen_close children) in
+    let events = events_of terms plan entries children in
+    subst (λ (run : Stream). AreInDayOrder run.rows) (run_by_rows terms plan entries children first limit events starts refl refl) (in_order_left terms plan entries children first limit events refl)
+order_by terms plan entries children (Err stop) stops = subst (λ (run : Stream). AreInDayOrder run.rows) (run_stopped terms plan entries children stop stops) none_in_day_order
+
+-- the rows of a run stand by their days
+pub run_in_day_order : (terms : Terms) (plan : EventPlan) (entries : List Obs) (children : List Stream) → AreInDayOrder (run_over terms plan entries children).rows
+run_in_day_order terms plan entries children = order_by terms plan entries children (start_of terms plan) refl

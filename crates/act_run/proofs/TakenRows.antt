@@ -11,6 +11,7 @@ use Rattle.act_model.specs.declared.state.State.{State}
 use Rattle.act_profile.specs.Outcomes.{map_ok}
 use Rattle.act_profile.specs.Run.{close_of, row_of, rows_from, stopped_at_once, with_row}
 use Rattle.act_model.proofs.Lists.{next_of}
+use Rattle.act_run.specs.Resuming.{with_rows}
 
 abbrev pub Step : Type 0
 Step = State → Event → Result (ℤ × State) Stop
@@ -20,19 +21,15 @@ abbrev pub taken_rows : Event → ℕ → (State → Stream) → Result (ℤ × 
 taken_rows event currency rest (Ok taken) = with_row (row_of event currency taken) (rest taken.1)
 taken_rows event currency rest (Err stop) = stopped_at_once stop
 
--- rows before those of a run
-abbrev pub with_rows : List Row → Stream → Stream
-with_rows rows run = record { rows = rows ++ run.rows; close = run.close }
-
--- the first k of the events have these rows, and leave this state
-pub record HasTaken (step : Step) (currency : Event → ℕ) (first : State) (events : List Event) (rows : List Row) (s : State) (k : ℕ) : Type 0 where
-  pub is : rows_from step currency first events ≡ with_rows rows (rows_from step currency s (drop k events))
+-- behind those that stand already, the first k of the events have these rows, and leave this state
+pub record HasTaken (step : Step) (currency : Event → ℕ) (before : List Row) (first : State) (events : List Event) (rows : List Row) (s : State) (k : ℕ) : Type 0 where
+  pub is : with_rows before (rows_from step currency first events) ≡ with_rows rows (rows_from step currency s (drop k events))
 
 -- the row of an event, or its stop
 abbrev pub row_on : Step → (Event → ℕ) → State → Event → Result Row Stop
 row_on step currency s event = map_ok (row_of event (currency event)) (step s event)
 
-rows_of_cons : (step : Step) (currency : Event → ℕ) (s : State) (event : Event) (events : List Event) →
+pub rows_of_cons : (step : Step) (currency : Event → ℕ) (s : State) (event : Event) (events : List Event) →
     rows_from step currency s (event ∷ events) ≡ taken_rows event (currency event) (λ next. rows_from step currency next events) (step s event)
 unfolding rows_from
 rows_of_cons step currency s event events = refl
@@ -56,16 +53,16 @@ rows_of_none : (step : Step) (currency : Event → ℕ) (s : State) → rows_fro
 unfolding rows_from
 rows_of_none step currency s = refl
 
-pub taken_none : (step : Step) (currency : Event → ℕ) (first : State) (events : List Event) → HasTaken step currency first events [] first 0
-taken_none step currency first events = record { is = refl }
+pub taken_none : (step : Step) (currency : Event → ℕ) (before : List Row) (first : State) (events : List Event) → HasTaken step currency before first events before first 0
+taken_none step currency before first events = record { is = refl }
 
 one_more : (rows : List Row) (row : Row) (run : Stream) → with_rows rows (with_row row run) ≡ with_rows (rows ++ row ∷ []) run
 one_more rows row run = ap (λ all. record { rows = all; close = run.close }) (sym (append_assoc rows (row ∷ []) run.rows))
 
-pub taken_one : (step : Step) (currency : Event → ℕ) (first : State) (events : List Event) (rows : List Row) (s : State) (k : ℕ) (event : Event) (row : Row) →
-    HasTaken step currency first events rows s k → k < length events → event ≡ get_or events k event → row_on step currency s event ≡ Ok row →
-    HasTaken step currency first events (rows ++ row ∷ []) row.state (k + 1)
-taken_one step currency first events rows s k event row so_far lt here is =
+pub taken_one : (step : Step) (currency : Event → ℕ) (before : List Row) (first : State) (events : List Event) (rows : List Row) (s : State) (k : ℕ) (event : Event) (row : Row) →
+    HasTaken step currency before first events rows s k → k < length events → event ≡ get_or events k event → row_on step currency s event ≡ Ok row →
+    HasTaken step currency before first events (rows ++ row ∷ []) row.state (k + 1)
+taken_one step currency before first events rows s k event row so_far lt here is =
     let left = drop (k + 1) events in
     let next = ap (rows_from step currency s) (next_of events k event lt here) ∙ rows_of_cons step currency s event left
     ∙ row_first event (currency event) (λ state. rows_from step currency state left) (step s event) row is in
@@ -75,16 +72,16 @@ taken_one step currency first events rows s k event row so_far lt here is =
 closed : (rows : List Row) (close : Close) → with_rows rows (record { rows = []; close = close }) ≡ record { rows = rows; close = close }
 closed rows close = ap (λ all. record { rows = all; close = close }) (append-nil rows)
 
-pub taken_stop : (step : Step) (currency : Event → ℕ) (first : State) (events : List Event) (rows : List Row) (s : State) (k : ℕ) (event : Event) (stop : Stop) →
-    HasTaken step currency first events rows s k → k < length events → event ≡ get_or events k event → row_on step currency s event ≡ Err stop →
-    rows_from step currency first events ≡ record { rows = rows; close = close_of stop }
-taken_stop step currency first events rows s k event stop so_far lt here is =
+pub taken_stop : (step : Step) (currency : Event → ℕ) (before : List Row) (first : State) (events : List Event) (rows : List Row) (s : State) (k : ℕ) (event : Event) (stop : Stop) →
+    HasTaken step currency before first events rows s k → k < length events → event ≡ get_or events k event → row_on step currency s event ≡ Err stop →
+    with_rows before (rows_from step currency first events) ≡ record { rows = rows; close = close_of stop }
+taken_stop step currency before first events rows s k event stop so_far lt here is =
     let left = drop (k + 1) events in
     let next = ap (rows_from step currency s) (next_of events k event lt here) ∙ rows_of_cons step currency s event left
     ∙ stop_alone event (currency event) (λ state. rows_from step currency state left) (step s event) stop is in
     so_far.is ∙ ap (with_rows rows) next ∙ closed rows (close_of stop)
 
-pub taken_all : (step : Step) (currency : Event → ℕ) (first : State) (events : List Event) (rows : List Row) (s : State) (k : ℕ) →
-    HasTaken step currency first events rows s k → length events ≤ k → rows_from step currency first events ≡ record { rows = rows; close = End }
-taken_all step currency first events rows s k so_far le =
+pub taken_all : (step : Step) (currency : Event → ℕ) (before : List Row) (first : State) (events : List Event) (rows : List Row) (s : State) (k : ℕ) →
+    HasTaken step currency before first events rows s k → length events ≤ k → with_rows before (rows_from step currency first events) ≡ record { rows = rows; close = End }
+taken_all step currency before first events rows s k so_far le =
     so_far.is ∙ ap (λ left. with_rows rows (rows_from step currency s left)) (drop_all k events le) ∙ ap (with_rows rows) (rows_of_none step currency s) ∙ closed rows End

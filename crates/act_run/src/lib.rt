@@ -2,8 +2,14 @@
 #![tactic(auto)]
 
 mod events;
+mod kept;
+mod laws;
 mod limit;
 mod rows;
 mod run;
 
-pub use run::evaluate;
+pub use laws::{
+    runs_before_a_change_are_kept, what_is_dated_before_a_change_stays,
+    what_is_not_read_does_not_matter,
+};
+pub use run::{evaluate, resume};

@@ -62,7 +62,7 @@ fn earlier_close(a: &Close, b: &Close) -> Close
 }
 
 /// The day of a stop; an end has none.
-fn stop_day(close: &Close) -> Option<Day>
+pub(crate) fn stop_day(close: &Close) -> Option<Day>
     ensures { result ≡ stop_day close.now }
 {
     match close {
@@ -72,7 +72,7 @@ fn stop_day(close: &Close) -> Option<Day>
 }
 
 /// Whether a day comes before another; any day comes before none.
-fn comes_before(day: Option<Day>, limit: Option<Day>) -> bool
+pub(crate) fn comes_before(day: Option<Day>, limit: Option<Day>) -> bool
     ensures { result ≡ comes_before day limit }
 {
     match (day, limit) {

@@ -1,5 +1,5 @@
 //! The rows of events.
-ghost use Rattle.std.specs.Prelude.{◌≡◌, ◌+◌, length, map, Ok, IfOk, IfErr};
+ghost use Rattle.std.specs.Prelude.{◌≡◌, ◌+◌, ◌≤◌, length, map, take, Ok, IfOk};
 ghost use Rattle.std.specs.Arc.{arc_value};
 ghost use Rattle.act_kind.specs.Takes.{Takes};
 ghost use Rattle.act_profile.specs.Built.{IsBuilt};
@@ -7,6 +7,7 @@ ghost use Rattle.act_profile.specs.Outcomes.{map_ok};
 ghost use Rattle.act_profile.specs.Plan.{plan_of};
 ghost use Rattle.act_profile.specs.Run.{close_of, row_of, rows_from, stopped_at_once};
 ghost use Rattle.act_profile.specs.Steps.{currency_of, step_of};
+ghost use Rattle.act_run.specs.Resuming.{state_behind, with_rows};
 
 use act_contract::{currency_of, step};
 use act_model::{Close, Event, Observed, Plan, Row, Rows, Run, State, Stop, Terms};
@@ -15,11 +16,39 @@ use std::alloc::Global;
 use std::sync::Arc;
 use std::sync::ledger::Ledger;
 
-/// The rows of events from a state on, one for each, up to the first stop. It ticks once for each row.
-pub(crate) fn rows_from<O: Observed, L: Ledger>(
+/// The first rows of a list, so many, and room for a whole list.
+pub(crate) fn first_rows(
     alloc: Global,
+    rows: &Rows,
+    count: usize,
+    room: usize,
+) -> Result<Rows, NoMemory>
+    requires { count ≤ length rows.now }
+    ensures { IfOk result (λ first. first ≡ take count rows.now) }
+{
+    let mut first = Rows::with_capacity(alloc, room)?;
+    'rows: for place in 0..count {
+        first.push(rows.row(place))?;
+    }
+    Ok(first)
+}
+
+/// The state behind rows: that of the last, and of none the starting state.
+pub(crate) fn state_behind(first: State, rows: &Rows) -> State
+    ensures { result ≡ state_behind first rows.now }
+{
+    match rows.count().checked_sub(1) {
+        Some(last) => rows.row(last).state,
+        None => first,
+    }
+}
+
+/// Rows, and behind them those of events from a state on, one for each, up to the first stop. It ticks once for each row that
+/// it adds.
+pub(crate) fn rows_behind<O: Observed, L: Ledger>(
     terms: &Terms,
     plan: &Plan,
+    mut rows: Rows,
     first: State,
     events: &[Event],
     children: &[Arc<Run, Global>],
@@ -29,11 +58,10 @@ pub(crate) fn rows_from<O: Observed, L: Ledger>(
     requires built { IsBuilt terms.now.kind }
     requires plan { plan_of terms.now ≡ Ok plan.now }
     ensures run { IfOk result (λ run. run
-        ≡ rows_from (step_of terms.now plan.now (O.entries seen.now) (map arc_value children.now))
-        (currency_of terms.now (map arc_value children.now)) first events.now) }
-    ensures ticked { IfOk result (λ run. steps.new ≡ steps.old + length run.rows) }
+        ≡ with_rows rows (rows_from (step_of terms.now plan.now (O.entries seen.now) (map arc_value children.now))
+        (currency_of terms.now (map arc_value children.now)) first events.now)) }
+    ensures ticked { IfOk result (λ run. steps.new + length rows ≡ steps.old + length run.rows) }
 {
-    let mut rows = Rows::with_capacity(alloc, events.len())?;
     let mut state = first;
     'events: for event in events {
         match next_row(terms, plan, &state, event, children, seen, steps) {

@@ -1,19 +1,22 @@
 //! The run of a contract.
-ghost use Rattle.std.specs.Prelude.{◌≡◌, ◌+◌, ◌≤◌, int_lt, length, map, Ok, IfOk};
+ghost use Rattle.std.specs.Prelude.{◌≡◌, ◌+◌, ◌≤◌, drop, int_lt, length, map, take, Ok, IfOk};
 ghost use Rattle.std.specs.Arc.{arc_value};
 ghost use Rattle.std.specs.List.{prefix_len};
 ghost use Rattle.act_profile.specs.Built.{IsBuilt};
+ghost use Rattle.act_profile.specs.Kept.{kept_of};
 ghost use Rattle.act_profile.specs.Plan.{plan_of};
 ghost use Rattle.act_profile.specs.Run.{run_over};
 ghost use Rattle.act_run.specs.Limits.{before_limit, closed_by};
+ghost use Rattle.act_run.specs.Resuming.{BeginsWith};
 ghost use Rattle.act_swap.specs.Children.{AreInDayOrder, RunsAreInDayOrder};
 
 use crate::events::events_of;
+use crate::kept::kept_count;
 use crate::limit::{Limit, limit_of};
-use crate::rows::{rows_from, stopped_at_once};
+use crate::rows::{first_rows, rows_behind, state_behind, stopped_at_once};
 use act_contract::start;
 use act_date::Day;
-use act_model::{Close, Event, Observed, Plan, Run, Terms};
+use act_model::{Close, Event, Observed, Plan, Rows, Run, Terms};
 use act_num::{NoMemory, Steps};
 use std::alloc::Global;
 use std::sync::Arc;
@@ -37,16 +40,93 @@ pub fn evaluate<O: Observed, L: Ledger>(
     ensures in_day_order { IfOk result (λ run. AreInDayOrder run.rows) }
     ensures ticked { IfOk result (λ run. steps.new ≡ steps.old + length run.rows) }
 {
+    run_behind(
+        alloc,
+        terms,
+        plan,
+        children,
+        &Rows::new(alloc),
+        0,
+        seen,
+        steps,
+    )
+}
+
+/// The same run, from a run of the same contract at another version, older or newer, of which the rows dated before the cut
+/// are kept, and the whole run where there is no cut or it stops before it. It is asked that what is kept of that run is kept
+/// of the run wanted, as it is where the two versions differ, as to what the contract reads, only in entries dated from the
+/// cut on, and in none where there is no cut ([`runs_before_a_change_are_kept`](crate::runs_before_a_change_are_kept)). Kept
+/// rows are taken as they are: it ticks once for each row that wasn't kept.
+pub fn resume<O: Observed, L: Ledger>(
+    alloc: Global,
+    terms: &Terms,
+    plan: &Plan,
+    children: &[Arc<Run, Global>],
+    kept: &Run,
+    cut: Option<Day>,
+    seen: &O,
+    steps: &mut Steps<L>,
+) -> Result<Run, NoMemory>
+    requires built { IsBuilt terms.now.kind }
+    requires plan { plan_of terms.now ≡ Ok plan.now }
+    requires children { RunsAreInDayOrder (map arc_value children.now) }
+    requires kept_in_day_order { AreInDayOrder kept.now.rows }
+    requires kept { kept_of kept.now cut ≡ kept_of (run_over terms.now plan.now (O.entries seen.now) (map arc_value children.now)) cut }
+    ensures run { IfOk result (λ run. run ≡ run_over terms.now plan.now (O.entries seen.now) (map arc_value children.now)) }
+    ensures in_day_order { IfOk result (λ run. AreInDayOrder run.rows) }
+    ensures ticked { IfOk result (λ run. steps.new + length (kept_of kept.now cut).rows ≡ steps.old + length run.rows) }
+{
+    match kept_count(kept, cut) {
+        Some(count) => run_behind(alloc, terms, plan, children, &kept.rows, count, seen, steps),
+        None => copied(alloc, kept),
+    }
+}
+
+/// The run of a contract, whose first rows, so many, are those of a list.
+fn run_behind<O: Observed, L: Ledger>(
+    alloc: Global,
+    terms: &Terms,
+    plan: &Plan,
+    children: &[Arc<Run, Global>],
+    rows: &Rows,
+    count: usize,
+    seen: &O,
+    steps: &mut Steps<L>,
+) -> Result<Run, NoMemory>
+    requires built { IsBuilt terms.now.kind }
+    requires plan { plan_of terms.now ≡ Ok plan.now }
+    requires children { RunsAreInDayOrder (map arc_value children.now) }
+    requires within { count ≤ length rows.now }
+    requires same { BeginsWith (run_over terms.now plan.now (O.entries seen.now) (map arc_value children.now)) (take count rows.now) }
+    ensures run { IfOk result (λ run. run ≡ run_over terms.now plan.now (O.entries seen.now) (map arc_value children.now)) }
+    ensures in_day_order { IfOk result (λ run. AreInDayOrder run.rows) }
+    ensures ticked { IfOk result (λ run. steps.new + count ≡ steps.old + length run.rows) }
+{
     let limit = limit_of(alloc, terms, children, seen)?;
     let events = events_of(alloc, terms, plan, children, seen)?;
     match start(terms, plan) {
         Ok(first) => {
             let before = before_limit(&limit, &events);
-            let run = rows_from(alloc, terms, plan, first, before, children, seen, steps)?;
+            let kept = first_rows(alloc, rows, count, before.len())?;
+            let state = state_behind(first, &kept);
+            let left = events_behind(before, count);
+            let run = rows_behind(terms, plan, kept, state, left, children, seen, steps)?;
             Ok(closed_by(&limit, run))
         }
         Err(stop) => Ok(stopped_at_once(alloc, stop)),
     }
+}
+
+/// A copy of a run.
+fn copied(alloc: Global, run: &Run) -> Result<Run, NoMemory>
+    ensures { IfOk result (λ copy. copy ≡ run.now) }
+{
+    let count = run.rows.count();
+    let rows = first_rows(alloc, &run.rows, count, count)?;
+    Ok(Run {
+        rows,
+        close: run.close,
+    })
 }
 
 /// The events before the day on which a run is stopped.
@@ -57,6 +137,14 @@ fn before_limit<'a>(limit: &Option<Limit>, events: &'a [Event]) -> &'a [Event]
         Some(limit) => &events[..count_before(limit.day, events)],
         None => events,
     }
+}
+
+/// The events behind the first, so many.
+fn events_behind(events: &[Event], count: usize) -> &[Event]
+    requires { count ≤ length events.now }
+    ensures { result.now ≡ drop count events.now }
+{
+    &events[count..]
 }
 
 /// How many events stand before the first that isn't before a day.

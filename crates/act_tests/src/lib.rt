@@ -1,6 +1,10 @@
-//! What no table of cases can say: turns that threads take, a sink of another sort, and calls that answer nothing.
+//! What no table of cases can say: turns that threads take, runs of the desk, a sink of another sort, and calls that answer nothing.
 #![tactic(auto)]
 
+#[cfg(test)]
+mod alone;
+#[cfg(test)]
+mod desk;
 #[cfg(test)]
 mod narrow;
 #[cfg(test)]

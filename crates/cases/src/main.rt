@@ -14,6 +14,7 @@ mod naming;
 mod numbers;
 mod outside;
 mod references;
+mod resumed;
 mod scripts;
 mod shadows;
 mod signs;
@@ -153,6 +154,7 @@ fn answer<F: Files>(
         "book.txt" => shelf.answer(told, words, call),
         "references.txt" => references::answer(told, words, call),
         "scripts.txt" => scripts::answer(told, words, files, call),
+        "kept-rows.txt" => resumed::answer(told, words, files, call),
         "weights.txt" => weights::answer(told, words, call),
         "texts.txt" => texts::answer(told, words, files, call),
         "outside.txt" | "generator.txt" => outside::answer(told, words, call),

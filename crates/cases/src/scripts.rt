@@ -64,7 +64,7 @@ fn of_scripts(
 
 /// The steps of a script, or its refusal.
 #[tactic(auto, using(std::proofs::lemmas::Option::slice_get_cases))]
-fn read(
+pub fn read(
     alloc: Global,
     bytes: &[u8],
     names: &mut Names,

@@ -45,7 +45,7 @@ invariant_of-result c =
     let lists = c.args.graph.children.items in
     is_kept _ _ _ _ _ c.requires.graph c.requires.contracts c.requires.few c.in_ok-plans.plans.items (rw (c.deref.ensures.value, c.deref-2.ensures.value) at c.in_ok-plans.ensures.plans) c.in_ok-terms.terms.items
     (rw (c.deref-3.ensures.value, c.deref-4.ensures.value) at c.in_ok-terms.ensures) c.args.names (map (λ u. map string_bytes u.items) c.args.unused.items) c.requires.names (length-map c.args.unused.items (λ u. map string_bytes u.items) ∙ c.requires.unused)
-    _ _ _ _ (subst (λ (m : ℕ). AreRanks m c.args.graph.order.items c.in_ok-ranks.ranks.items) (sym (length-map lists (λ l. l.items))) (rw (c.deref-5.ensures.value, c.deref-6.ensures.value) at c.in_ok-ranks.ensures))
+    c.requires.fit c.requires.numbered _ _ _ _ (subst (λ (m : ℕ). AreRanks m c.args.graph.order.items c.in_ok-ranks.ranks.items) (sym (length-map lists (λ l. l.items))) (rw (c.deref-5.ensures.value, c.deref-6.ensures.value) at c.in_ok-ranks.ensures))
     (rw (c.deref-7.ensures.value, c.deref-8.ensures.value, c.deref-9.ensures.value) at c.in_ok-cones.ensures)
 
 pub returns-clause-accepted : goal.returns-clause-accepted

@@ -8,6 +8,7 @@ use Rattle.act_refs.specs.Ordered.{order_of}
 use Rattle.act_portfolio.specs.Reading.{portfolio_listed}
 use Rattle.act_portfolio.specs.Refusal.{refusal_of}
 use Rattle.act_portfolio.proofs.Accepting.{accepts, as_many_read, refused_checks, refused_contracts, refused_graph, refused_plans, unused_are_many}
+use Rattle.act_portfolio.proofs.Numbered.{are_numbered}
 use Rattle.act_portfolio.proofs.reading.portfolio_listed.Goals as goal
 
 pub returns-in_err-named-clause-refused : goal.returns-in_err-named-clause-refused
@@ -43,6 +44,9 @@ returns-in_err-graph-clause-refused c =
     let whole : IfSome (refusal_of c.in_err-graph.field-0.0) (λ refusal. portfolio_listed objects ≡ Err refusal) =
     IfSome_then (refusal_of c.in_err-graph.field-0.0) (rw c.deref-3.ensures.value at c.in_err-graph.ensures.refused) (λ refusal. refused_graph objects _ _ c.in_ok-named.ensures.read refusal checks) in
     search rules
+
+pub bound_portfolio-requires-clause-numbered : goal.bound_portfolio-requires-clause-numbered
+bound_portfolio-requires-clause-numbered c = are_numbered (map (λ v. view v.now) c.args.contracts.now) _ _ c.in_ok-named.ensures.read
 
 pub bound_portfolio-requires-clause-unused : goal.bound_portfolio-requires-clause-unused
 bound_portfolio-requires-clause-unused c =

@@ -1,4 +1,5 @@
 use Rattle.act_portfolio.proofs.Kept.{children_exist, order_numbered}
+use Rattle.act_portfolio.proofs.Unrolling.{within_depth}
 use Rattle.act_portfolio.proofs.portfolio.Portfolio.order.Goals as goal
 
 pub returns-clause-numbered : goal.returns-clause-numbered
@@ -7,3 +8,6 @@ returns-clause-numbered c =
 
 pub returns-clause-exist : goal.returns-clause-exist
 returns-clause-exist c = rw (← c.self.view_is) (children_exist _ _ c.self.invariant.accepted.numbered)
+
+pub returns-clause-within_depth : goal.returns-clause-within_depth
+returns-clause-within_depth c = rw (← c.self.view_is) (within_depth _ _ _ _ c.self.invariant.accepted)

@@ -1,0 +1,127 @@
+-- A run that goes on from its first rows.
+use Rattle.std.proofs.Common.{◌≡◌, ℕ, zero, suc, ◌≤◌, ℤ, List, [], ◌∷◌, length, take, drop, slice_get, Option, Some, Result, Ok, Err, refl, sym, ap, subst, ◌∙◌, arith}
+use Rattle.act_model.specs.declared.event.Event.{Event}
+use Rattle.act_model.specs.declared.run.Row.{Row}
+use Rattle.act_model.specs.declared.run.Stop.{Stop}
+use Rattle.act_model.specs.declared.state.State.{State}
+use Rattle.std.proofs.lemmas.List.{length-take-le}
+use Rattle.act_model.specs.Run.{EventPlan, Stream}
+use Rattle.act_model.specs.declared.observed.Obs.{Obs}
+use Rattle.act_model.specs.declared.terms.Terms.{Terms}
+use Rattle.act_profile.specs.Events.{events_of}
+use Rattle.act_profile.specs.Run.{row_of, rows_from, run_over, with_row}
+use Rattle.act_profile.specs.Steps.{currency_of, start_of, step_of}
+use Rattle.act_profile.specs.Stops.{chosen_close}
+use Rattle.act_run.specs.Limits.{before_limit, closed_by, limit_of}
+use Rattle.act_run.specs.Resuming.{BeginsWith, state_behind, with_rows}
+use Rattle.act_run.specs.declared.limit.Limit.{Limit}
+use Rattle.act_run.proofs.Limited.{closed_by_rows, rows_over, run_by_rows, run_stopped}
+use Rattle.act_run.proofs.TakenRows.{Step, rows_of_cons, taken_rows}
+
+-- ---- the state behind rows
+
+pub behind_none : (first : State) (rows : List Row) → (1 ≤ length rows → ⊥) → first ≡ state_behind first rows
+unfolding state_behind
+behind_none first [] none = refl
+behind_none first (row ∷ rows) none = absurd (none (omega arith))
+
+pub behind_last : (first : State) (rows : List Row) (last : ℕ) (row : Row) → length rows ≡ suc last → slice_get rows last ≡ Some row → row.state ≡ state_behind first rows
+unfolding state_behind
+behind_last first [] last row count here = absurd (omega (arith, count))
+behind_last first (r ∷ []) zero row count here =
+    let same : r ≡ row = cc in
+    ap (λ (x : Row). x.state) (sym same)
+behind_last first (r ∷ []) (suc last) row count here = absurd (omega (arith, count))
+behind_last first (r ∷ s ∷ rows) zero row count here = absurd (omega (arith, count))
+behind_last first (r ∷ s ∷ rows) (suc last) row count here = behind_last r.state (s ∷ rows) last row (omega (arith, count)) here
+
+-- ---- going on
+
+-- a row that a run begins with is that of its first event, and the rows behind it go on from its state
+record IsTaken (event : Event) (currency : ℕ) (rest : State → Stream) (taken : Result (ℤ × State) Stop) (row : Row) (rows : List Row) : Type 0 where
+  is : with_row row (rest row.state) ≡ taken_rows event currency rest taken
+  left : take (length rows) (rest row.state).rows ≡ rows
+
+is_taken : (event : Event) (currency : ℕ) (rest : State → Stream) (taken : Result (ℤ × State) Stop) (row : Row) (rows : List Row) →
+    take (length (row ∷ rows)) (taken_rows event currency rest taken).rows ≡ row ∷ rows → IsTaken event currency rest taken row rows
+is_taken event currency rest (Ok taken) row rows begins =
+    let same : row_of event currency taken ≡ row = cc in
+    let left : take (length rows) (rest taken.1).rows ≡ rows = cc in
+    record {
+      is = sym (ap (λ (r : Row). with_row r (rest r.state)) same);
+      left = subst (λ (r : Row). take (length rows) (rest r.state).rows ≡ rows) same left;
+    }
+is_taken event currency rest (Err stop) row rows begins = absurd (cc)
+
+-- a run goes on from these rows: there is an event for each, and the run is these rows and then those of the other events
+pub record GoesOn (step : Step) (currency : Event → ℕ) (first : State) (events : List Event) (rows : List Row) : Type 0 where
+  pub within : length rows ≤ length events
+  pub is : with_rows rows (rows_from step currency (state_behind first rows) (drop (length rows) events)) ≡ rows_from step currency first events
+
+no_events : (step : Step) (currency : Event → ℕ) (first : State) (row : Row) (rows : List Row) → take (length (row ∷ rows)) (rows_from step currency first []).rows ≡ row ∷ rows → ⊥
+unfolding rows_from
+no_events step currency first row rows begins = cc
+
+go_on : (step : Step) (currency : Event → ℕ) (first : State) (events : List Event) (rows : List Row) → take (length rows) (rows_from step currency first events).rows ≡ rows →
+    GoesOn step currency first events rows
+unfolding state_behind
+go_on step currency first events [] begins = record { within = omega arith; is = refl }
+go_on step currency first [] (row ∷ rows) begins = absurd (no_events step currency first row rows begins)
+go_on step currency first (event ∷ events) (row ∷ rows) begins =
+    let rest = λ (next : State). rows_from step currency next events in
+    let one = is_taken event (currency event) rest (step first event) row rows (subst (λ (run : Stream). take (length (row ∷ rows)) run.rows ≡ row ∷ rows) (rows_of_cons step currency first event events) begins) in
+    let more = go_on step currency row.state events rows one.left in
+    record {
+      within = omega (arith, more.within);
+      is = ap (with_row row) more.is ∙ one.is ∙ sym (rows_of_cons step currency first event events);
+    }
+
+-- ---- the run of a contract
+
+-- where it begins with these rows, its events before the limit go on from them
+pub goes_on_before : (terms : Terms) (plan : EventPlan) (entries : List Obs) (children : List Stream) (first : State) (limit : Option Limit) (events : List Event) (rows : List Row) → start_of terms plan ≡ Ok first
+    → limit ≡ limit_of terms.common terms.kind entries (chosen_close children) → events ≡ events_of terms plan entries children → BeginsWith (run_over terms plan entries children) rows
+    → GoesOn (step_of terms plan entries children) (currency_of terms children) first (before_limit limit events) rows
+goes_on_before terms plan entries children first limit events rows starts is are begins =
+    let before = rows_over terms plan entries children first (before_limit limit events) in
+    let same : before.rows ≡ (run_over terms plan entries children).rows =
+    sym (closed_by_rows limit before) ∙ ap (λ (run : Stream). run.rows) (run_by_rows terms plan entries children first limit events starts is are) in
+    go_on (step_of terms plan entries children) (currency_of terms children) first (before_limit limit events) rows (ap (take (length rows)) same ∙ begins.first)
+
+-- and what is made from there is the run
+pub resumed_run : (terms : Terms) (plan : EventPlan) (entries : List Obs) (children : List Stream) (first : State) (limit : Option Limit) (events : List Event) (rows : List Row) (count : ℕ)
+    (kept : List Row) (state : State) (before left : List Event) (run : Stream) → start_of terms plan ≡ Ok first
+    → limit ≡ limit_of terms.common terms.kind entries (chosen_close children) → events ≡ events_of terms plan entries children → BeginsWith (run_over terms plan entries children) (take count rows)
+    → count ≤ length rows → kept ≡ take count rows → state ≡ state_behind first kept → before ≡ before_limit limit events → left ≡ drop count before
+    → run ≡ with_rows kept (rows_over terms plan entries children state left) → closed_by limit run ≡ run_over terms plan entries children
+resumed_run terms plan entries children first limit events rows count kept state before left run starts is are begins within keeps behind ends leaves makes =
+    let goes = goes_on_before terms plan entries children first limit events (take count rows) starts is are begins in
+    let over = rows_over terms plan entries children in
+    let size : length (take count rows) ≡ count = length-take-le count rows within in
+    let all : run ≡ over first (before_limit limit events) =
+    makes ∙ ap (λ (k : List Row). with_rows k (over state left)) keeps
+    ∙ ap (λ (s : State). with_rows (take count rows) (over s left)) (behind ∙ ap (state_behind first) keeps)
+    ∙ ap (λ (es : List Event). with_rows (take count rows) (over (state_behind first (take count rows)) es)) (leaves ∙ ap (drop count) ends ∙ ap (λ (n : ℕ). drop n (before_limit limit events)) (sym size))
+    ∙ goes.is in
+    ap (closed_by limit) all ∙ run_by_rows terms plan entries children first limit events starts is are
+
+-- there is an event for each of its first rows
+pub enough_events : (terms : Terms) (plan : EventPlan) (entries : List Obs) (children : List Stream) (first : State) (limit : Option Limit) (events : List Event) (rows : List Row) (count : ℕ) (before : List Event)
+    → start_of terms plan ≡ Ok first → limit ≡ limit_of terms.common terms.kind entries (chosen_close children) → events ≡ events_of terms plan entries children
+    → BeginsWith (run_over terms plan entries children) (take count rows) → count ≤ length rows → before ≡ before_limit limit events → count ≤ length before
+enough_events terms plan entries children first limit events rows count before starts is are begins within ends =
+    let goes = goes_on_before terms plan entries children first limit events (take count rows) starts is are begins in
+    let size : length (take count rows) ≡ count = length-take-le count rows within in
+    subst (λ (es : List Event). count ≤ length es) (sym ends) (subst (λ (n : ℕ). n ≤ length (before_limit limit events)) size goes.within)
+
+take-none : (n : ℕ) (rows : List Row) → rows ≡ [] → take n rows ≡ []
+take-none zero rows none = refl
+take-none (suc n) [] none = refl
+take-none (suc n) (row ∷ rows) none = absurd (cc)
+
+-- a run without rows begins with none
+pub none_first : (terms : Terms) (plan : EventPlan) (entries : List Obs) (children : List Stream) (stop : Stop) (rows : List Row) (count : ℕ) → start_of terms plan ≡ Err stop → BeginsWith (run_over terms plan entries children) (take count rows) → count ≤ length rows → count ≡ 0
+none_first terms plan entries children stop rows count stops begins within =
+    let run = run_over terms plan entries children in
+    let none : run.rows ≡ [] = ap (λ (r : Stream). r.rows) (sym (run_stopped terms plan entries children stop stops)) in
+    sym (length-take-le count rows within) ∙ ap length (sym begins.first ∙ take-none (length (take count rows)) run.rows none)

@@ -1,0 +1,46 @@
+-- A run that goes on from rows that are kept of another. This profile's own.
+use Rattle.std.specs.Prelude.{◌≡◌, ◌≤ℤ◌, ℕ, ℤ, List, [], ◌∷◌, ◌++◌, length, take, Option, Some, None}
+use Rattle.std.specs.List.{filter}
+use Rattle.act_date.specs.Civil.{last_day}
+use Rattle.act_model.specs.Run.{Stream}
+use Rattle.act_model.specs.declared.observed.Obs.{Obs}
+use Rattle.act_model.specs.declared.run.Row.{Row}
+use Rattle.act_model.specs.declared.state.State.{State}
+use Rattle.act_profile.specs.Kept.{KeptRows, kept_of}
+use Rattle.act_profile.specs.Reads.{codes_read, contracts_read, touches}
+use Rattle.act_profile.specs.Run.{Contracts, deepest, run_of}
+use Rattle.act_causality.specs.Causality.{AgreeBefore, IsLinked, IsWithinDepth}
+
+-- ---- going on
+
+-- rows before those of a run
+abbrev pub with_rows : List Row → Stream → Stream
+with_rows rows run = record { rows = rows ++ run.rows; close = run.close }
+
+-- the state behind rows: that of the last, and of none the starting state
+unfoldable pub state_behind : State → List Row → State
+state_behind first [] = first
+state_behind first (row ∷ rows) = state_behind row.state rows
+
+-- these rows are the first of a run
+pub record BeginsWith (run : Stream) (rows : List Row) : Type 0 where
+  pub first : take (length rows) run.rows ≡ rows
+
+-- what is kept of a run: its first rows, so many, or the whole of it
+abbrev pub kept_by : Stream → Option ℕ → KeptRows
+kept_by run None = record { rows = run.rows; close = Some run.close }
+kept_by run (Some count) = record { rows = take count run.rows; close = None }
+
+-- ---- what may be kept
+
+-- two books differ, as to a contract's cone, only in entries dated from the cut on, and in none where there is no cut
+abbrev pub DifferFrom : Option ℤ → Contracts → ℕ → List Obs → List Obs → Type 0
+DifferFrom None contracts c one other =
+    filter (touches (codes_read contracts c) (contracts_read contracts c)) one ≡ filter (touches (codes_read contracts c) (contracts_read contracts c)) other
+DifferFrom (Some cut) contracts c one other = (cut ≤ℤ last_day) × AgreeBefore cut (codes_read contracts c) (contracts_read contracts c) one other
+
+-- then what is kept of a contract's run over the one is kept of its run over the other
+abbrev pub RunsAreKept : Type 0
+RunsAreKept = (contracts : Contracts) (c : ℕ) (cut : Option ℤ) (one other : List Obs) →
+    IsLinked contracts → IsWithinDepth deepest contracts c → DifferFrom cut contracts c one other →
+    kept_of (run_of contracts one c) cut ≡ kept_of (run_of contracts other c) cut
