@@ -47,10 +47,10 @@ module _ {X : Type 0} (p : X → Bool) (xs : List X) (y : X) where
 
 -- ---- the journal
 
-map-not : {X Y : Type 0} (f : X → Option Y) (xs : List X) (x : X) → f x ≡ None → filter_map f (xs ++ x ∷ []) ≡ filter_map f xs
+pub map-not : {X Y : Type 0} (f : X → Option Y) (xs : List X) (x : X) → f x ≡ None → filter_map f (xs ++ x ∷ []) ≡ filter_map f xs
 map-not f xs x none = filter_map-append f xs (x ∷ []) ∙ rw none (append-nil (filter_map f xs))
 
-map-yes : {X Y : Type 0} (f : X → Option Y) (xs : List X) (x : X) (y : Y) → f x ≡ Some y → filter_map f (xs ++ x ∷ []) ≡ filter_map f xs ++ y ∷ []
+pub map-yes : {X Y : Type 0} (f : X → Option Y) (xs : List X) (x : X) (y : Y) → f x ≡ Some y → filter_map f (xs ++ x ∷ []) ≡ filter_map f xs ++ y ∷ []
 map-yes f xs x y some = filter_map-append f xs (x ∷ []) ∙ rw some refl
 
 module _ (history : History) (mark : Mark) where

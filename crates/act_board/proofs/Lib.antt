@@ -7,6 +7,7 @@ pub mod Claimed
 pub mod Dropped
 pub mod Extended
 pub mod Going
+pub mod LatestRuns
 pub mod Marking
 pub mod Moves
 pub mod Opened
@@ -16,3 +17,4 @@ pub mod Places
 pub mod Quotas
 pub mod Reaching
 pub mod Told
+pub mod Worked

@@ -3,6 +3,7 @@ pub mod Dropping
 pub mod Entries
 pub mod History
 pub mod Kept
+pub mod Latest
 pub mod Legal
 pub mod Reached
 pub mod Tasks

@@ -6,6 +6,7 @@ use crate::caller::{
 };
 use crate::claiming::{are_ready, children_results, first_waiting, next_claimable, results_of};
 use crate::dropping::drop_runs;
+use crate::latest::{Latest, cached_for, none_yet, put_latest};
 use crate::mark::Mark;
 use crate::outcome::{AppendFault, AskFault, Claim, Collected};
 use crate::pair::{Pair, Progress, is_claimed, put_progress};
@@ -34,6 +35,8 @@ pub struct Board {
     callers: Vec<Caller>,
     /// Each contract that was wanted, at each version, by version and then by rank.
     pairs: Vec<Pair>,
+    /// Of each contract the result at the greatest version, where it has one.
+    latest: Vec<Option<Latest>>,
     /// No pair before this place is waiting.
     front: usize,
     /// Where the dropping of runs goes on: pairs before this place were gone over.
@@ -49,12 +52,14 @@ impl Model for Board {
     ghost use Rattle.std.specs.Arc.{arc_value};
     ghost use Rattle.act_board.specs.History.{History};
     ghost use Rattle.act_board.specs.Kept.{IsBoard};
+    ghost use Rattle.act_board.specs.Latest.{AreLatest};
 
     ghost Value = { History };
 
     ghost view = { λ b. record { portfolio = arc_value b.portfolio; quotas = b.quotas.items; marks = b.marks.items } };
 
-    ghost invariant = { λ b. IsBoard (record { portfolio = arc_value b.portfolio; quotas = b.quotas.items; marks = b.marks.items }) (vec_capacity b.marks) b.items.items b.book b.callers.items b.pairs.items b.front b.owing b.given_up };
+    ghost invariant = { λ b. IsBoard (record { portfolio = arc_value b.portfolio; quotas = b.quotas.items; marks = b.marks.items }) (vec_capacity b.marks) b.items.items b.book b.callers.items b.pairs.items b.front b.owing b.given_up
+        × AreLatest (record { portfolio = arc_value b.portfolio; quotas = b.quotas.items; marks = b.marks.items }) b.latest.items };
 }
 
 impl Board {
@@ -65,6 +70,7 @@ impl Board {
     ghost use Rattle.act_model.specs.declared.journal.Step.TheVariants as step;
     ghost use Rattle.act_board.specs.Calls.{Claims, Collects, IsOf, after_finish, after_give_up};
     ghost use Rattle.act_board.specs.History.{IsPresent, and_then, asks_by, is_given_up, journal_of, open_asks, version_of};
+    ghost use Rattle.act_board.specs.Latest.{kept_for};
     ghost use Rattle.act_board.specs.Legal.{HasQuota, IsFull, IsLegal, IsNext, IsSound};
     ghost use Rattle.act_board.specs.Work as evaluation;
     ghost use Rattle.act_board.specs.declared.mark.Mark.TheVariants as mark;
@@ -90,6 +96,7 @@ impl Board {
         make_room(&mut marks, 0, owing)?;
         let callers = callers_of(alloc, quotas)?;
         let quotas = Vec::from_slice(alloc, quotas)?;
+        let latest = none_yet(alloc, portfolio.terms().len())?;
         Ok(Board {
             portfolio,
             quotas,
@@ -98,6 +105,7 @@ impl Board {
             book: Book::new(alloc),
             callers,
             pairs: Vec::new(alloc),
+            latest,
             front: 0,
             dropped: 0,
             owing,
@@ -230,7 +238,8 @@ impl Board {
 
     /// Hands out the evaluation that is next: of those that an open ask asks for or reaches, that have no result and aren't
     /// claimed, and whose children have results, the one of the least version, and among these of the least place in the
-    /// portfolio's order. Memory can run out only where there is one.
+    /// portfolio's order. It keeps what the contract's latest result, at an older or a newer version, has before the cut between
+    /// the two versions. Memory can run out only where there is one.
     pub fn claim(&mut self) -> Result<Claim, NoMemory>
         ensures claimed { IfOk result (λ claim. Claims self.old claim self.new) }
         ensures memory { IfErr result (λ _. (contract : ℕ) × (version : ℕ) × IsLegal self.old (mark.Claim contract version)) }
@@ -261,14 +270,23 @@ impl Board {
         ensures work { IfOk result (λ work. IsOf self.old work) }
         ensures contract { IfOk result (λ work. work.contract ≡ contract) }
         ensures version { IfOk result (λ work. evaluation.version work ≡ version) }
+        ensures kept { IfOk result (λ work. work.kept ≡ kept_for self.old contract version) }
         ensures claimed { IfOk result (λ _. self.new ≡ and_then self.old (mark.Claim contract version)) }
         ensures unchanged { IfErr result (λ _. self.new ≡ self.old) }
     {
         let alloc = *self.items.allocator();
         let seen = self.book.snapshot(version)?;
         let children = children_results(alloc, &self.portfolio, &self.pairs, contract, version)?;
+        let cached = cached_for(
+            &self.portfolio,
+            &self.book,
+            &self.latest,
+            contract,
+            &seen,
+            version,
+        )?;
         make_room(&mut self.marks, self.owing, 2)?;
-        let task = Task::new(&self.portfolio, contract, seen, children);
+        let task = Task::new(&self.portfolio, contract, seen, children, cached);
         let rank = self.portfolio.rank(contract);
         put_progress(&mut self.pairs, version, rank, Progress::Claimed);
         self.owing += 1;
@@ -276,19 +294,21 @@ impl Board {
         Ok(task)
     }
 
-    /// Takes an evaluation that was made: where it is claimed, it is the contract's result at its version from here on;
-    /// otherwise it is dropped.
+    /// Takes an evaluation that was made: where it is claimed, it is the contract's result at its version from here on, and its
+    /// latest unless that is of a later version; otherwise it is dropped. It takes no memory.
     pub fn finish(&mut self, done: Done)
         requires { IsOf self.old done }
         ensures { self.new ≡ after_finish self.old done.contract (evaluation.version done) }
     {
-        let (contract, version, run) = done.into_parts();
+        let (contract, version, run, latest) = done.into_parts();
         let rank = self.portfolio.rank(contract);
         if !is_claimed(&self.pairs, version, rank) {
             drop(run);
+            drop(latest);
             return;
         }
         put_progress(&mut self.pairs, version, rank, Progress::Done(run));
+        put_latest(&mut self.latest, contract, version, latest);
         self.owing -= 1;
         put_mark(&mut self.marks, &Mark::finish(contract, version));
     }

@@ -8,6 +8,7 @@ mod caller;
 mod claiming;
 mod dropping;
 mod history;
+mod latest;
 mod mark;
 mod outcome;
 mod pair;

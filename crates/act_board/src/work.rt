@@ -1,23 +1,27 @@
 //! The evaluation of a contract, from when it is handed out until it comes back.
 
+use crate::latest::Cached;
 use act_book::Snapshot as Entries;
+use act_date::Day;
 use act_model::{Observed, Run};
 use act_num::{NoMemory, Steps};
 use act_portfolio::Portfolio;
-use act_run::evaluate;
+use act_run::{evaluate, is_kept_whole, kept_rows, resume};
 use std::alloc::Global;
 use std::marker::Model;
 use std::snapshot::Snapshot;
 use std::sync::Arc;
 use std::sync::ledger::Ledger;
 
-/// The evaluation of a contract over the first entries of a book, to be made. It comes from a board alone.
+/// The evaluation of a contract over the first entries of a book, to be made. It holds what it goes on from: the contract's
+/// latest result, at an older or a newer version, and the cut between the two. It comes from a board alone.
 #[derive(Drop)]
 pub struct Task {
     contract: u32,
     version: u64,
     seen: Entries,
     children: Vec<Arc<Run, Global>>,
+    cached: Cached,
     /// Which portfolio it is of; contracts alone see it.
     of: Snapshot<Portfolio>,
 }
@@ -25,42 +29,48 @@ pub struct Task {
 impl Model for Task {
     ghost use Rattle.std.specs.Prelude.{map};
     ghost use Rattle.std.specs.Arc.{arc_value};
+    ghost use Rattle.act_board.specs.Latest.{kept_rows};
     ghost use Rattle.act_board.specs.Tasks.{IsTask};
     ghost use Rattle.act_board.specs.Work.{Work};
 
     ghost Value = { Work };
 
-    ghost view = { λ t. record { portfolio = t.of.value; contract = t.contract; entries = t.seen } };
+    ghost view = { λ t. record { portfolio = t.of.value; contract = t.contract; entries = t.seen; kept = kept_rows t.cached } };
 
-    ghost invariant = { λ t. IsTask (record { portfolio = t.of.value; contract = t.contract; entries = t.seen }) t.version (map arc_value t.children.items) };
+    ghost invariant = { λ t. IsTask (record { portfolio = t.of.value; contract = t.contract; entries = t.seen; kept = kept_rows t.cached }) t.version (map arc_value t.children.items) t.cached };
 }
 
 impl Task {
     ghost use Rattle.std.specs.Prelude.{◌≡◌, ◌+◌, ◌<◌, Ok, length, map, IfErr, IfOk};
     ghost use Rattle.std.specs.Arc.{arc_value};
+    ghost use Rattle.act_profile.specs.Kept.{kept_of};
     ghost use Rattle.act_refs.specs.Ordered.{order_of};
     ghost use Rattle.act_swap.specs.Children.{AreInDayOrder};
-    ghost use Rattle.act_board.specs.Tasks.{AreRunsBelow};
+    ghost use Rattle.act_board.specs.Latest as latest;
+    ghost use Rattle.act_board.specs.Tasks.{AreRunsBelow, GoesOnFrom, MayGoOn};
     ghost use Rattle.act_board.specs.Work.{outcome, version};
 
-    /// The task of a contract over entries and its children's runs.
+    /// The task of a contract over entries, with its children's runs and what it goes on from.
     pub(crate) fn new(
         portfolio: &Portfolio,
         contract: u32,
         seen: Entries,
         children: Vec<Arc<Run, Global>>,
+        cached: Cached,
     ) -> Task
         requires contract { contract < length portfolio.now.contracts.terms }
         requires ordered { order_of portfolio.now.contracts.children ≡ Ok portfolio.now.order }
         requires count { length portfolio.now.contracts.children ≡ length portfolio.now.contracts.terms }
-        requires children { AreRunsBelow (record { portfolio = portfolio.now; contract = contract; entries = seen }) (map arc_value children.items) }
-        ensures { result ≡ record { portfolio = portfolio.now; contract = contract; entries = seen } }
+        requires children { AreRunsBelow (record { portfolio = portfolio.now; contract = contract; entries = seen; kept = latest.kept_rows cached }) (map arc_value children.items) }
+        requires kept { MayGoOn (outcome (record { portfolio = portfolio.now; contract = contract; entries = seen; kept = latest.kept_rows cached })) cached.run cached.cut }
+        ensures { result ≡ record { portfolio = portfolio.now; contract = contract; entries = seen; kept = latest.kept_rows cached } }
     {
         Task {
             contract,
             version: seen.version(),
             seen,
             children,
+            cached,
             of: Snapshot::of(portfolio),
         }
     }
@@ -79,8 +89,9 @@ impl Task {
         self.version
     }
 
-    /// Makes the evaluation: the contract's run from inception, children first. It ticks once for each row. For want of
-    /// memory the task comes back as it was; `steps` may have ticked by then.
+    /// Makes the evaluation: the contract's run as from inception, children first. Rows that are kept of the contract's latest
+    /// result are taken as they are, and where all of it is kept, it is shared: it ticks once for each row that wasn't kept.
+    /// For want of memory the task comes back as it was; `steps` may have ticked by then.
     pub fn work<L: Ledger>(
         self,
         alloc: Global,
@@ -90,35 +101,99 @@ impl Task {
         requires portfolio { portfolio.now ≡ self.portfolio }
         ensures done { IfOk result (λ done. done ≡ self) }
         ensures task { IfErr result (λ task. task ≡ self) }
-        ensures ticked { IfOk result (λ _. steps.new ≡ steps.old + length (outcome self).rows) }
+        ensures ticked { IfOk result (λ _. steps.new + length self.kept.rows ≡ steps.old + length (outcome self).rows) }
     {
         let Ok(run) = self.run(alloc, portfolio, steps) else {
             return Err(self);
         };
-        let Ok(run) = Arc::new(alloc, run) else {
+        let Ok(latest) = Arc::try_clone(&run) else {
             return Err(self);
         };
+        let fresh = self.fresh(&run);
         let over = Snapshot::of(&self.seen);
+        let kept = Snapshot::of(&self.cached);
         let Task {
             contract,
             version,
             seen,
             children,
+            cached,
             of,
         } = self;
         drop(seen);
         drop(children);
+        drop(cached);
         Ok(Done {
             contract,
             version,
             run,
+            latest,
+            fresh,
             of,
             over,
+            kept,
         })
     }
 
-    /// The contract's run.
+    /// The contract's run: the latest result itself, where all of it is kept.
     fn run<L: Ledger>(
+        &self,
+        alloc: Global,
+        portfolio: &Portfolio,
+        steps: &mut Steps<L>,
+    ) -> Result<Arc<Run, Global>, NoMemory>
+        requires portfolio { portfolio.now ≡ self.now.portfolio }
+        ensures run { IfOk result (λ run. arc_value run ≡ outcome self.now) }
+        ensures in_day_order { IfOk result (λ run. AreInDayOrder (arc_value run).rows) }
+        ensures ticked { IfOk result (λ _. steps.new + length self.now.kept.rows ≡ steps.old + length (outcome self.now).rows) }
+    {
+        match &self.cached.run {
+            Some(kept) => {
+                if is_kept_whole(kept, self.cached.cut) {
+                    Ok(Arc::try_clone(kept)?)
+                } else {
+                    let run = self.resumed(alloc, portfolio, kept, self.cached.cut, steps)?;
+                    Ok(Arc::new(alloc, run)?)
+                }
+            }
+            None => {
+                let run = self.evaluated(alloc, portfolio, steps)?;
+                Ok(Arc::new(alloc, run)?)
+            }
+        }
+    }
+
+    /// The contract's run, which goes on from what is kept of another.
+    fn resumed<L: Ledger>(
+        &self,
+        alloc: Global,
+        portfolio: &Portfolio,
+        kept: &Run,
+        cut: Option<Day>,
+        steps: &mut Steps<L>,
+    ) -> Result<Run, NoMemory>
+        requires portfolio { portfolio.now ≡ self.now.portfolio }
+        requires kept { GoesOnFrom (outcome self.now) kept.now cut }
+        ensures run { IfOk result (λ run. run ≡ outcome self.now) }
+        ensures in_day_order { IfOk result (λ run. AreInDayOrder run.rows) }
+        ensures ticked { IfOk result (λ _. steps.new + length (kept_of kept.now cut).rows ≡ steps.old + length (outcome self.now).rows) }
+    {
+        let terms = &portfolio.terms()[self.contract as usize];
+        let plan = portfolio.plan(self.contract);
+        resume(
+            alloc,
+            terms,
+            plan,
+            &self.children,
+            kept,
+            cut,
+            &self.seen,
+            steps,
+        )
+    }
+
+    /// The contract's run from inception.
+    fn evaluated<L: Ledger>(
         &self,
         alloc: Global,
         portfolio: &Portfolio,
@@ -133,59 +208,80 @@ impl Task {
         let plan = portfolio.plan(self.contract);
         evaluate(alloc, terms, plan, &self.children, &self.seen, steps)
     }
+
+    /// How many rows of the contract's run weren't kept.
+    fn fresh(&self, run: &Run) -> u64
+        requires run { run.now ≡ outcome self.now }
+        ensures { result + length self.now.kept.rows ≡ length run.now.rows }
+    {
+        let rows = run.rows.count();
+        match &self.cached.run {
+            Some(kept) => (rows - kept_rows(kept, self.cached.cut)) as u64,
+            None => rows as u64,
+        }
+    }
 }
 
 /// An evaluation that was made. It comes from a task alone.
 #[derive(Drop)]
 pub struct Done {
-    pub(crate) contract: u32,
-    pub(crate) version: u64,
-    pub(crate) run: Arc<Run, Global>,
-    /// Which portfolio it is of, and over which entries it was made; contracts alone see them.
+    contract: u32,
+    version: u64,
+    run: Arc<Run, Global>,
+    /// The same run once more, so that a board takes no memory for either.
+    latest: Arc<Run, Global>,
+    fresh: u64,
+    /// Which portfolio it is of, over which entries it was made and what it went on from; contracts alone see them.
     of: Snapshot<Portfolio>,
     over: Snapshot<Entries>,
+    kept: Snapshot<Cached>,
 }
 
 impl Model for Done {
     ghost use Rattle.std.specs.Arc.{arc_value};
+    ghost use Rattle.act_board.specs.Latest.{kept_rows};
     ghost use Rattle.act_board.specs.Tasks.{IsDone};
     ghost use Rattle.act_board.specs.Work.{Work};
 
     ghost Value = { Work };
 
-    ghost view = { λ d. record { portfolio = d.of.value; contract = d.contract; entries = d.over.value } };
+    ghost view = { λ d. record { portfolio = d.of.value; contract = d.contract; entries = d.over.value; kept = kept_rows d.kept.value } };
 
-    ghost invariant = { λ d. IsDone (record { portfolio = d.of.value; contract = d.contract; entries = d.over.value }) d.version (arc_value d.run) };
+    ghost invariant = { λ d. IsDone (record { portfolio = d.of.value; contract = d.contract; entries = d.over.value; kept = kept_rows d.kept.value }) d.version (arc_value d.run) (arc_value d.latest) d.fresh };
 }
 
 impl Done {
-    ghost use Rattle.std.specs.Prelude.{◌≡◌, ◌<◌, length};
+    ghost use Rattle.std.specs.Prelude.{◌≡◌, ◌+◌, ◌<◌, length};
     ghost use Rattle.std.specs.Arc.{arc_value};
     ghost use Rattle.act_swap.specs.Children.{AreInDayOrder};
     ghost use Rattle.act_board.specs.Work.{outcome, version};
 
-    /// How many rows of its run weren't kept: all.
+    /// How many rows of its run weren't kept of the contract's latest result.
     pub fn fresh(&self) -> u64
-        ensures { result ≡ length (outcome self.now).rows }
+        ensures { result + length self.now.kept.rows ≡ length (outcome self.now).rows }
     {
-        self.run.rows.count() as u64
+        self.fresh
     }
 
-    /// Its parts: the contract's number, how many entries it is of, and the run.
-    pub(crate) fn into_parts(self) -> (u32, u64, Arc<Run, Global>)
+    /// Its parts: the contract's number, how many entries it is of, and the run, twice.
+    pub(crate) fn into_parts(self) -> (u32, u64, Arc<Run, Global>, Arc<Run, Global>)
         ensures contract { result.0 ≡ self.contract }
         ensures within { result.0 < length self.portfolio.contracts.terms }
         ensures version { result.1 ≡ version self }
         ensures run { arc_value result.2 ≡ outcome self }
+        ensures latest { arc_value result.3 ≡ outcome self }
         ensures in_day_order { AreInDayOrder (arc_value result.2).rows }
     {
         let Done {
             contract,
             version,
             run,
+            latest,
+            fresh: _,
             of: _,
             over: _,
+            kept: _,
         } = self;
-        (contract, version, run)
+        (contract, version, run, latest)
     }
 }

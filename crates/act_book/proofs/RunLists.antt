@@ -8,6 +8,7 @@ use Rattle.std.specs.Arc.{arc_value}
 use Rattle.std.specs.List.{slice_get}
 use Rattle.std.specs.declared.alloc.Global.{Global}
 use Rattle.std.specs.declared.sync.Arc.{Arc}
+use Rattle.act_model.proofs.Lists.{get_back, get_front, take_parts}
 use Rattle.act_model.specs.declared.observed.Obs.{Obs}
 use Rattle.act_model.specs.Observed.{is_entry}
 use Rattle.act_book.specs.Entries.{AreEntries}
@@ -28,26 +29,6 @@ module _ (runs : List (Arc (List Obs) Global)) (i : ℕ) (run : Arc (List Obs) G
 -- a run put behind others that are then turned round
 pub entries_turned : (runs : List (Arc (List Obs) Global)) (run : Arc (List Obs) Global) → entries_of (reverse (runs ++ run ∷ [])) ≡ arc_value run ++ entries_of (reverse runs)
 entries_turned runs run = ap entries_of (reverse-append runs (run ∷ []))
-
--- a list up to one place, and from there up to another
-pub take_parts : {X : Type 0} (a b : ℕ) (xs : List X) → a ≤ b → take a xs ++ take (b - a) (drop a xs) ≡ take b xs
-take_parts a b xs within =
-    let whole : take (a + (b - a)) xs ≡ take b xs = ap (λ n. take n xs) (omega arith) in
-    ap (λ front. front ++ take (b - a) (drop a xs)) (sym (take-take a b xs within))
-    ∙ ap (λ back. take a (take b xs) ++ back) (sym (drop-take a (b - a) xs) ∙ ap (drop a) whole)
-    ∙ take-append-drop a (take b xs)
-
--- what stands in the front of two lists, and in the back
-pub get_front : {X : Type 0} (xs ys : List X) (k : ℕ) (d : X) → k < length xs → slice_get (xs ++ ys) k ≡ slice_get xs k
-get_front xs ys k d below =
-    slice_get-get_or (xs ++ ys) k d (omega (arith, length-append xs ys)) ∙ ap Some (get_or_append_left xs ys d k below) ∙ sym (slice_get-get_or xs k d below)
-
-pub get_back : {X : Type 0} (xs ys : List X) (k : ℕ) (d : X) → length xs ≤ k → slice_get (xs ++ ys) k ≡ slice_get ys (k - length xs)
-get_back xs ys k d behind = elim (cases_lt (k - length xs) (length ys)) [
-  | inl below ↦
-      slice_get-get_or (xs ++ ys) k d (omega (arith, length-append xs ys)) ∙ ap Some (get_or-append_right xs ys (length xs) k d refl behind) ∙ sym (slice_get-get_or ys (k - length xs) d below)
-  | inr past ↦ slice_get_past (xs ++ ys) k (omega (arith, length-append xs ys)) ∙ sym (slice_get_past ys (k - length xs) past)
-]
 
 -- what stands among entries is one
 pub entry_is : (entries : List Obs) (k : ℕ) (found : Option Obs) → found ≡ slice_get entries k → AreEntries entries → IfSome found (λ entry. is_entry entry ≡ true)

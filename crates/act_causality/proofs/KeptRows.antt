@@ -1,7 +1,8 @@
 -- What is kept under the cut between two versions.
-use Rattle.std.proofs.Common.{◌≡◌, ◌≤◌, ℕ, zero, suc, false, ℤ, int_lt, ◌≤ℤ◌, List, [], ◌∷◌, ◌++◌, map, take, drop, Option, Some, None, inl, inr, refl, sym, ◌∙◌, ap, append-nil, arith}
-use Rattle.std.specs.List.{AllByRecursion, filter}
-use Rattle.std.proofs.lemmas.Bool.{cases_Bool}
+use Rattle.std.proofs.Common.{◌≡◌, ◌≤◌, ℕ, max, min, false, ℤ, int_lt, ◌≤ℤ◌, List, [], ◌∷◌, ◌++◌, map, take, drop, Option, Some, None, inl, inr, refl, sym, ◌∙◌, ap, append-nil, arith}
+use Rattle.std.specs.List.{filter}
+use Rattle.std.proofs.Math.Nat.{max-eq_left, max-eq_right, min-eq_left, min-eq_right}
+use Rattle.std.proofs.lemmas.Bool.{cases_Bool, cases_lt}
 use Rattle.std.proofs.lemmas.Int.{ints}
 use Rattle.std.proofs.lemmas.List.{take-append-drop, take-take}
 use Rattle.std.proofs.lemmas.List.Elements.{filter-append}
@@ -16,8 +17,7 @@ use Rattle.act_profile.specs.Run.{Contracts, deepest, run_of}
 use Rattle.act_profile.specs.Stops.{comes_before}
 use Rattle.act_causality.specs.Causality.{AgreeBefore, IsLinked, IsWithinDepth, KeptRowsStay, RunsAgreeBefore, UnreadDoesNotMatter, is_entry_before, stops_before, touching_before}
 use Rattle.act_causality.proofs.Cone.{cone-read}
-use Rattle.act_causality.proofs.Days.{is_before_day, late-least_of, least_of-all}
-use Rattle.act_causality.proofs.EventFacts.{all-filter}
+use Rattle.act_causality.proofs.Days.{is_before_day, late-least_of}
 use Rattle.act_causality.proofs.Law.{causality}
 use Rattle.act_causality.proofs.Lists.{filter-map}
 use Rattle.act_causality.proofs.Shadows.{pairs}
@@ -76,30 +76,13 @@ module _ (codes contracts : List ℕ) (u w : ℕ) (entries : List Obs) (order : 
       none-map day_of_entry (filter (is_entry_before day) between)
       (sym (filter-map (is_entry_before day) (is_before_day day) day_of_entry (λ entry. refl) between) ∙ late-least_of day (map day_of_entry between) late)
 
--- ---- days
-
-module _ (P : Obs → Type 0) where
-  all-take : (n : ℕ) (entries : List Obs) → AllByRecursion P entries → AllByRecursion P (take n entries)
-  all-take zero entries all = tt
-  all-take (suc n) [] all = tt
-  all-take (suc n) (entry ∷ entries) all = (all.0, all-take n entries all.1)
-
-  all-drop : (n : ℕ) (entries : List Obs) → AllByRecursion P entries → AllByRecursion P (drop n entries)
-  all-drop zero entries all = all
-  all-drop (suc n) [] all = tt
-  all-drop (suc n) (entry ∷ entries) all = all-drop n entries all.1
-
-all-days : (entries : List Obs) → AllByRecursion (λ entry. day_of_entry entry ≤ℤ last_day) entries → AllByRecursion (λ day. day ≤ℤ last_day) (map day_of_entry entries)
-all-days [] all = tt
-all-days (entry ∷ entries) all = (all.0, all-days entries all.1)
-
 -- ---- the law
 
 none-least : (days : List ℤ) → least days ≡ None → days ≡ []
 none-least [] is = refl
 none-least (d ∷ days) is = absurd (cc)
 
-kept-by : (contracts : Contracts) (c : ℕ) (entries : List Obs) (u w : ℕ) (cut : Option ℤ) → IsLinked contracts → IsWithinDepth deepest contracts c → u ≤ w → AllByRecursion (λ entry. day_of_entry entry ≤ℤ last_day) entries →
+kept-by : (contracts : Contracts) (c : ℕ) (entries : List Obs) (u w : ℕ) (cut : Option ℤ) → IsLinked contracts → IsWithinDepth deepest contracts c → u ≤ w → ((day : ℤ) → cut ≡ Some day → day ≤ℤ last_day) →
     least (map day_of_entry (filter (touches (codes_read contracts c) (contracts_read contracts c)) (drop u (take w entries)))) ≡ cut →
     kept_of (run_of contracts (take u entries) c) cut ≡ kept_of (run_of contracts (take w entries) c) cut
 kept-by contracts c entries u w None linked within order range is =
@@ -111,11 +94,25 @@ kept-by contracts c entries u w (Some day) linked within order range is =
     let codes = codes_read contracts c in
     let reads = contracts_read contracts c in
     kept_same day (run_of contracts (take u entries) c) (run_of contracts (take w entries) c)
-    (causality contracts c day (take u entries) (take w entries) linked within
-    (least_of-all (λ d. d ≤ℤ last_day) (map day_of_entry (between codes reads u w entries order)) day
-    (all-days (between codes reads u w entries order) (all-filter (λ entry. day_of_entry entry ≤ℤ last_day) (touches codes reads) (drop u (take w entries)) (all-drop (λ entry. day_of_entry entry ≤ℤ last_day) u (take w entries) (all-take (λ entry. day_of_entry entry ≤ℤ last_day) w entries range)))) is)
+    (causality contracts c day (take u entries) (take w entries) linked within (range day refl)
     (none-early codes reads u w entries order day (early-none codes reads u w entries order day is)))
 
 pub kept_rows : KeptRowsStay
 unfolding cut_by
 kept_rows contracts c entries u w linked within order range = kept-by contracts c entries u w (cut_of contracts c entries u w) linked within order range refl
+
+-- ---- from the smaller to the greater of two versions
+
+pub kept_between : (contracts : Contracts) (c : ℕ) (entries : List Obs) (u v : ℕ) → IsLinked contracts → IsWithinDepth deepest contracts c → ((day : ℤ) → cut_of contracts c entries (min u v) (max u v) ≡ Some day → day ≤ℤ last_day) →
+    kept_of (run_of contracts (take u entries) c) (cut_of contracts c entries (min u v) (max u v)) ≡ kept_of (run_of contracts (take v entries) c) (cut_of contracts c entries (min u v) (max u v))
+kept_between contracts c entries u v linked within range = elim (cases_lt u v) [
+  | inl lt ↦
+      let le : u ≤ v = omega (arith, lt) in
+      let least_is : min u v ≡ u = min-eq_left le in
+      let most_is : max u v ≡ v = max-eq_right le in
+      rw (least_is, most_is) (kept_rows contracts c entries u v linked within le (rw (least_is, most_is) at range))
+  | inr le ↦
+      let least_is : min u v ≡ v = min-eq_right le in
+      let most_is : max u v ≡ u = max-eq_left le in
+      rw (least_is, most_is) (sym (kept_rows contracts c entries v u linked within le (rw (least_is, most_is) at range)))
+]

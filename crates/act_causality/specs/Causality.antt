@@ -252,8 +252,8 @@ UnreadDoesNotMatter = (contracts : Contracts) (c : ℕ) (one other : List Obs) �
     filter (touches (codes_read contracts c) (contracts_read contracts c)) one ≡ filter (touches (codes_read contracts c) (contracts_read contracts c)) other →
     run_of contracts one c ≡ run_of contracts other c
 
--- what is kept of a contract's run under the cut between two versions of a book is the same of the run at either
+-- what is kept of a contract's run under the cut between two versions of a book is the same of the run at either, where the cut is a day that can be
 abbrev pub KeptRowsStay : Type 0
 KeptRowsStay = (contracts : Contracts) (c : ℕ) (entries : List Obs) (u w : ℕ) →
-    IsLinked contracts → IsWithinDepth deepest contracts c → u ≤ w → AllByRecursion (λ entry. day_of_entry entry ≤ℤ last_day) entries →
+    IsLinked contracts → IsWithinDepth deepest contracts c → u ≤ w → ((day : ℤ) → cut_of contracts c entries u w ≡ Some day → day ≤ℤ last_day) →
     kept_of (run_of contracts (take u entries) c) (cut_of contracts c entries u w) ≡ kept_of (run_of contracts (take w entries) c) (cut_of contracts c entries u w)

@@ -1,4 +1,5 @@
 pub mod AsksInTurn
+pub mod Chunks
 pub mod Lists
 pub mod NamePlaces
 pub mod LatestRates

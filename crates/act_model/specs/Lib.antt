@@ -8,5 +8,6 @@ pub mod Name
 pub mod Names
 pub mod Observed
 pub mod Reads
+pub mod Rows
 pub mod Run
 pub mod Terms

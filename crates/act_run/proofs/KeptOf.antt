@@ -26,7 +26,7 @@ up_to run cut count goes_on first = rw (sym goes_on) (ap (λ (rows : List Row). 
 
 -- ---- what it says of the run
 
-part : (run : Stream) (cut : ℤ) → comes_before (stop_day run.close) (Some cut) ≡ false → kept_of run (Some cut) ≡ record { rows = rows_before cut run; close = None }
+pub part : (run : Stream) (cut : ℤ) → comes_before (stop_day run.close) (Some cut) ≡ false → kept_of run (Some cut) ≡ record { rows = rows_before cut run; close = None }
 unfolding kept_of
 part run cut goes_on = rw goes_on refl
 

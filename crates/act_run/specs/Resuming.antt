@@ -1,5 +1,5 @@
 -- A run that goes on from rows that are kept of another. This profile's own.
-use Rattle.std.specs.Prelude.{◌≡◌, ◌≤ℤ◌, ℕ, ℤ, List, [], ◌∷◌, ◌++◌, length, take, Option, Some, None}
+use Rattle.std.specs.Prelude.{◌≡◌, ◌≤ℤ◌, ℕ, ℤ, List, [], ◌∷◌, ◌++◌, length, max, min, take, Option, Some, None}
 use Rattle.std.specs.List.{filter}
 use Rattle.act_date.specs.Civil.{last_day}
 use Rattle.act_model.specs.Run.{Stream}
@@ -7,7 +7,7 @@ use Rattle.act_model.specs.declared.observed.Obs.{Obs}
 use Rattle.act_model.specs.declared.run.Row.{Row}
 use Rattle.act_model.specs.declared.state.State.{State}
 use Rattle.act_profile.specs.Kept.{KeptRows, kept_of}
-use Rattle.act_profile.specs.Reads.{codes_read, contracts_read, touches}
+use Rattle.act_profile.specs.Reads.{codes_read, contracts_read, cut_of, touches}
 use Rattle.act_profile.specs.Run.{Contracts, deepest, run_of}
 use Rattle.act_causality.specs.Causality.{AgreeBefore, IsLinked, IsWithinDepth}
 
@@ -44,3 +44,9 @@ abbrev pub RunsAreKept : Type 0
 RunsAreKept = (contracts : Contracts) (c : ℕ) (cut : Option ℤ) (one other : List Obs) →
     IsLinked contracts → IsWithinDepth deepest contracts c → DifferFrom cut contracts c one other →
     kept_of (run_of contracts one c) cut ≡ kept_of (run_of contracts other c) cut
+
+-- so it is of its runs at two versions of a book under the cut from the smaller to the greater of them, where that is a day that can be
+abbrev pub RunsAreKeptBetween : Type 0
+RunsAreKeptBetween = (contracts : Contracts) (c : ℕ) (entries : List Obs) (u v : ℕ) →
+    IsLinked contracts → IsWithinDepth deepest contracts c → ((day : ℤ) → cut_of contracts c entries (min u v) (max u v) ≡ Some day → day ≤ℤ last_day) →
+    kept_of (run_of contracts (take u entries) c) (cut_of contracts c entries (min u v) (max u v)) ≡ kept_of (run_of contracts (take v entries) c) (cut_of contracts c entries (min u v) (max u v))

@@ -1,5 +1,5 @@
 //! What is kept of a run.
-ghost use Rattle.std.specs.Prelude.{◌≡◌, ◌≤◌, int_lt, length, take, IfSome};
+ghost use Rattle.std.specs.Prelude.{◌≡◌, ◌≤◌, false, int_lt, length, None, take, true, IfSome};
 ghost use Rattle.std.specs.List.{filter};
 ghost use Rattle.act_profile.specs.Kept.{kept_of};
 ghost use Rattle.act_run.specs.Resuming.{kept_by};
@@ -8,6 +8,29 @@ ghost use Rattle.act_swap.specs.Children.{AreInDayOrder};
 use crate::limit::{comes_before, stop_day};
 use act_date::Day;
 use act_model::{Row, Rows, Run};
+
+/// Whether the whole run is kept under a cut: there is none, or the run stops before it.
+pub fn is_kept_whole(run: &Run, cut: Option<Day>) -> bool
+    ensures whole { result ≡ true → kept_of run.now cut ≡ kept_by run.now None }
+    ensures part { result ≡ false → (kept_of run.now cut).close ≡ None }
+{
+    match cut {
+        Some(cut) => comes_before(stop_day(&run.close), Some(cut)),
+        None => true,
+    }
+}
+
+/// How many rows are kept of a run under a cut: those before it, and all where the whole run is kept.
+pub fn kept_rows(run: &Run, cut: Option<Day>) -> usize
+    requires in_day_order { AreInDayOrder run.now.rows }
+    ensures rows { result ≡ length (kept_of run.now cut).rows }
+    ensures within { result ≤ length run.now.rows }
+{
+    match kept_count(run, cut) {
+        Some(count) => count,
+        None => run.rows.count(),
+    }
+}
 
 /// How many of its first rows are kept of a run under a cut; None where the whole run is.
 pub(crate) fn kept_count(run: &Run, cut: Option<Day>) -> Option<usize>

@@ -8,8 +8,9 @@ mod limit;
 mod rows;
 mod run;
 
+pub use kept::{is_kept_whole, kept_rows};
 pub use laws::{
-    runs_before_a_change_are_kept, what_is_dated_before_a_change_stays,
-    what_is_not_read_does_not_matter,
+    runs_are_kept_between_versions, runs_before_a_change_are_kept,
+    what_is_dated_before_a_change_stays, what_is_not_read_does_not_matter,
 };
 pub use run::{evaluate, resume};

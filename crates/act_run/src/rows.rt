@@ -16,7 +16,7 @@ use std::alloc::Global;
 use std::sync::Arc;
 use std::sync::ledger::Ledger;
 
-/// The first rows of a list, so many, and room for a whole list.
+/// The first rows of a list, so many; and where it has none of them, room for so many as are to come.
 pub(crate) fn first_rows(
     alloc: Global,
     rows: &Rows,
@@ -26,11 +26,11 @@ pub(crate) fn first_rows(
     requires { count ≤ length rows.now }
     ensures { IfOk result (λ first. first ≡ take count rows.now) }
 {
-    let mut first = Rows::with_capacity(alloc, room)?;
-    'rows: for place in 0..count {
-        first.push(rows.row(place))?;
+    if count == 0 {
+        Rows::with_capacity(alloc, room)
+    } else {
+        rows.first(alloc, count)
     }
-    Ok(first)
 }
 
 /// The state behind rows: that of the last, and of none the starting state.

@@ -56,7 +56,7 @@ pub fn evaluate<O: Observed, L: Ledger>(
 /// are kept, and the whole run where there is no cut or it stops before it. It is asked that what is kept of that run is kept
 /// of the run wanted, as it is where the two versions differ, as to what the contract reads, only in entries dated from the
 /// cut on, and in none where there is no cut ([`runs_before_a_change_are_kept`](crate::runs_before_a_change_are_kept)). Kept
-/// rows are taken as they are: it ticks once for each row that wasn't kept.
+/// rows are taken as they are: it ticks once for each row that wasn't kept; where memory runs out it may have ticked too.
 pub fn resume<O: Observed, L: Ledger>(
     alloc: Global,
     terms: &Terms,
@@ -122,7 +122,7 @@ fn copied(alloc: Global, run: &Run) -> Result<Run, NoMemory>
     ensures { IfOk result (λ copy. copy ≡ run.now) }
 {
     let count = run.rows.count();
-    let rows = first_rows(alloc, &run.rows, count, count)?;
+    let rows = run.rows.first(alloc, count)?;
     Ok(Run {
         rows,
         close: run.close,

@@ -72,7 +72,9 @@ fn evaluated(alloc: Global, room: usize) -> Result<(Status, Vec<u8>), Fail> {
 fn writes_the_rest_of_a_line(rt: HostRuntime) -> Result<(), Fail> {
     let (status, taken) = evaluated(rt.alloc(), 1000)?;
     assert_eq!(rt; status, Status::Done);
-    assert!(rt; taken.as_slice() == b"journal 1\n1 ask *\nanswers 1\nanswer 1 1 0\n".as_slice());
+    assert!(rt;
+        taken.as_slice() == b"journal 1\n1 ask *\nanswers 1\nanswer 1 1 0\nwork 0\n".as_slice()
+    );
     let (status, taken) = evaluated(rt.alloc(), 12)?;
     assert_eq!(rt; status, Status::NoMemory);
     assert!(rt; taken.as_slice() == b"journal 1\n1 ".as_slice());

@@ -1,14 +1,15 @@
 -- What one thread makes of a board that one caller has to itself.
-use Rattle.std.proofs.Common.{◌≡◌, ℕ, zero, suc, ◌+◌, ◌<◌, ◌≤◌, ◌==◌, ◌&&◌, cond, Bool, true, false, List, length, take, Ok, inl, inr, refl, sym, ap, subst, ◌∙◌, arith, eq-eqb, sum_by}
+use Rattle.std.proofs.Common.{◌≡◌, ◌≢◌, not, max, min, Option, None, Some, ℕ, zero, suc, ◌+◌, ◌<◌, ◌≤◌, ◌==◌, ◌&&◌, cond, Bool, true, false, List, length, take, Ok, inl, inr, refl, sym, ap, subst, ◌∙◌, arith, eq-eqb, sum_by}
 use Rattle.std.specs.List.{Contains, range_with_len}
 use Rattle.std.proofs.lemmas.Bool.{and_from, and_parts, cases_Bool, eqb-true}
-use Rattle.std.proofs.lemmas.List.{length-take, take-append-drop, take_all}
+use Rattle.std.proofs.lemmas.List.{take-append-drop}
 use Rattle.std.proofs.lemmas.List.Elements.{Contains-append_right}
 use Rattle.act_model.specs.Journal.{book_of, contracts_of}
 use Rattle.act_model.specs.declared.asks.Asking.{Asking}
 use Rattle.act_model.specs.declared.observed.Obs.{Obs}
 use Rattle.act_portfolio.specs.Reading.{Accepted}
-use Rattle.act_profile.specs.Run.{Contracts, run_of}
+use Rattle.act_profile.specs.Kept.{KeptRows}
+use Rattle.act_profile.specs.Run.{run_of}
 use Rattle.act_refs.specs.Ordered.{goes_on, order_of}
 use Rattle.act_refs.specs.Path.{HasPath, IsChild}
 use Rattle.act_refs.proofs.Leading.{goes_on-from_path}
@@ -18,26 +19,16 @@ use Rattle.act_board.specs.Calls.{Claims, IsOf, after_finish}
 use Rattle.act_board.specs.Work.{Work, outcome, version}
 use Rattle.act_board.specs.declared.outcome.Claim.TheVariants as claim
 use Rattle.act_board.specs.History.{History, IsPresent, IsWanted, and_then, appended_by, asks_by, collected_by, entries_of, has_result, is_append_by, is_claim_of, is_claimed, is_collect_by, is_finish_of, is_give_up, is_leave_by, journal_of, open_asks, version_of, was_claimed}
+use Rattle.act_board.specs.Latest.{cached_version, kept_at}
 use Rattle.act_board.specs.Legal.{IsClaimable, NoneIsClaimable}
 use Rattle.act_board.specs.declared.mark.Mark.TheVariants as mark
 use Rattle.act_board.proofs.Going.{any-not, any-yes, asks-same, count-not, entries-same, journal-same, open-same}
 use Rattle.act_board.proofs.Pairs.{claimed-same, result-same, result-stays}
 use Rattle.act_board.proofs.Reaching.{reached-child}
-use Rattle.act_top.specs.Driven.{GoesOn, IsAskedFor, IsQuiet, OnlyWorks, rows_at, rows_made, rows_of}
-use Rattle.act_top.proofs.Totals.{sum-more, sum-same}
-
--- ---- rows
-
--- one result more
-pub made-more : (contracts : Contracts) (book : List Obs) (has has' : ℕ → ℕ → Bool) (c v : ℕ) → c < length contracts.terms → v ≤ length book → has c v ≡ false → has' c v ≡ true
-    → ((d w : ℕ) → ((d ≡ c) × (w ≡ v) → ⊥) → has' d w ≡ has d w) → rows_made contracts book has' ≡ rows_made contracts book has + rows_of contracts book c v
-made-more contracts book has has' c v within least none one others =
-    sum-more (rows_at contracts book has) (rows_at contracts book has') v (rows_of contracts book c v) 0 (length book + 1) (omega arith) (omega arith)
-    (λ w other. sum-same (λ d. cond (has' d w) (rows_of contracts book d w) 0) (λ d. cond (has d w) (rows_of contracts book d w) 0) 0 (length contracts.terms)
-    (λ d from under. ap (λ (b : Bool). cond b (rows_of contracts book d w) 0) (others d w (λ both. other both.1))))
-    (sum-more (λ d. cond (has d v) (rows_of contracts book d v) 0) (λ d. cond (has' d v) (rows_of contracts book d v) 0) c (rows_of contracts book c v) 0 (length contracts.terms) (omega arith) (omega arith)
-    (λ d other. ap (λ (b : Bool). cond b (rows_of contracts book d v) 0) (others d v (λ both. other both.0)))
-    (rw (one, none) (omega arith)))
+use Rattle.act_top.specs.Driven.{GoesOn, IsAskedFor, IsLater, IsQuiet, OnlyWorks, made_since, rows_left, rows_since}
+use Rattle.act_top.specs.Work.{fresh_rows}
+use Rattle.act_top.proofs.Latest.{cached-finished, cached-has, cached-other, cached-same}
+use Rattle.act_top.proofs.Totals.{sum-more, sum-none}
 
 -- how many contracts have no result at the version
 abbrev pub lacking : History → ℕ
@@ -109,6 +100,15 @@ module _ (portfolio : Accepted) (history : History) (quiet : IsQuiet portfolio h
   pub made-it : has_result made c v ≡ true
   made-it = any-yes (is_finish_of c v) claiming.marks (mark.Finish c v) (and_from (c == c) (v == v) (eq-eqb c c refl) (eq-eqb v v refl))
 
+  pub version-now : v ≡ version_of history
+  version-now = wanted-now portfolio history quiet c v claimable.wanted
+
+  pub made-latest : cached_version made c ≡ Some v
+  made-latest = cached-finished c claiming v (λ u has. omega (arith, quiet.past c u (sym (result-same history (mark.Claim c v) c u refl) ∙ has), version-now))
+
+  pub made-latest-other : (d : ℕ) → (c == d) ≡ false → cached_version made d ≡ cached_version history d
+  made-latest-other d other = cached-other d claiming c v other ∙ cached-same d history (mark.Claim c v) refl
+
   pub made-other : (d w : ℕ) → ((d ≡ c) × (w ≡ v) → ⊥) → has_result made d w ≡ has_result history d w
   made-other d w apart = elim (cases_Bool (is-it d w)) [
     | inl this ↦ let same = test-parts c d v w this in absurd (apart (sym same.0, sym same.1))
@@ -146,28 +146,18 @@ module _ (portfolio : Accepted) (history : History) (quiet : IsQuiet portfolio h
       | inr all ↦ inr (λ d within reached. made-stays d ask.version (all d within reached))
     ];
     now = λ ask waits. quiet.now ask (subst (λ (asks : List Asking). Contains asks ask) made-open waits) ∙ sym (ap length made-entries);
+    past = λ d w has. elim (cases_Bool (is-it d w)) [
+      | inl this ↦ omega (arith, (test-parts c d v w this).1, version-now, ap length made-entries)
+      | inr other ↦ omega (arith, quiet.past d w (sym (made-same d w other) ∙ has), ap length made-entries)
+    ];
+    newest = λ d has. elim (cases_Bool (c == d)) [
+      | inl this ↦ ap (cached_version made) (sym (eqb-true c d this)) ∙ (made-latest ∙ ap {B = Option ℕ} (λ (n : ℕ). Some n) (version-now ∙ sym (ap length made-entries)))
+      | inr other ↦
+          made-latest-other d other
+          ∙ (quiet.newest d (sym (made-same d (version_of history) (rw other refl)) ∙ (ap (has_result made d) (sym (ap length made-entries)) ∙ has))
+          ∙ ap {B = Option ℕ} (λ (n : ℕ). Some n) (sym (ap length made-entries)))
+    ];
   }
-
-  version-now : v ≡ version_of history
-  version-now = wanted-now portfolio history quiet c v claimable.wanted
-
-  pub made-rows : (book : List Obs) → take (version_of history) book ≡ entries_of history
-      → rows_made portfolio.contracts book (has_result made) ≡ rows_made portfolio.contracts book (has_result history) + rows_of history.portfolio.contracts (entries_of history) c v
-  made-rows book begins =
-      let within : c < length portfolio.contracts.terms = omega (arith, claimable.wanted.contract, ap (λ (p : Accepted). length p.contracts.terms) quiet.portfolio) in
-      let more = made-more portfolio.contracts book (has_result history) (has_result made) c v within (least book begins) claimable.no_result made-it made-other in
-      more ∙ ap (λ (n : ℕ). rows_made portfolio.contracts book (has_result history) + n) (same-rows book begins)
-    where
-      least : (book : List Obs) → take (version_of history) book ≡ entries_of history → v ≤ length book
-      least book begins = omega (arith, version-now, ap length begins, length-take (version_of history) book)
-
-      same-rows : (book : List Obs) → take (version_of history) book ≡ entries_of history → rows_of portfolio.contracts book c v ≡ rows_of history.portfolio.contracts (entries_of history) c v
-      same-rows book begins =
-          ap (λ (p : Accepted). rows_of p.contracts book c v) (sym quiet.portfolio)
-          ∙ ap (λ (entries : List Obs). rows_from entries) (ap (λ (n : ℕ). take n book) version-now ∙ (begins ∙ sym (ap (λ (n : ℕ). take n (entries_of history)) version-now ∙ take_all (version_of history) (entries_of history) (omega arith))))
-        where
-          rows_from : List Obs → ℕ
-          rows_from entries = length (run_of history.portfolio.contracts entries c).rows
 
   pub made-lacks : lacking made + 1 ≡ lacking history
   made-lacks =
@@ -244,40 +234,139 @@ module _ (before mid : History) (work : Work) (claims : Claims before (claim.Tas
       let lacks : has_result (and_then before m) work.contract (version work) ≡ false = result-same before m work.contract (version work) refl ∙ claims.2.claimable.no_result in
       subst (λ (h : History). is_claimed h work.contract (version work) ≡ true) (sym mid-is) (rw (was, lacks) refl)
 
-  pub goes-on : (after : History) (ticks now : ℕ) → after ≡ after_finish mid work.contract (version work) → now ≡ ticks + length (outcome work).rows → GoesOn true before after ticks now
-  goes-on after ticks now finished ticked = (
-    work.contract,
-    version work,
-    claims.2.claimable,
-    finished ∙ (rw under-way (ap (λ (h : History). and_then h (mark.Finish work.contract (version work))) mid-is)),
-    ticked ∙ ap (λ (n : ℕ). ticks + n) (ap (λ (entries : List Obs). length (run_of work.portfolio.contracts entries work.contract).rows) claims.1.entries ∙ ap (λ (p : Accepted). rows_of p.contracts (entries_of before) work.contract (version work)) claims.1.portfolio),
-  )
+  module _ (portfolio : Accepted) (quiet : IsQuiet portfolio before) where
+    now-version : version work ≡ version_of before
+    now-version = version-now portfolio before quiet work.contract (version work) claims.2.claimable
+
+    -- it goes on from its run at an earlier version
+    earlier : (u : ℕ) → has_result before work.contract u ≡ true → (u ≤ version work) × ((u == version work) ≡ false)
+    earlier u has = (
+      omega (arith, quiet.past work.contract u has, now-version),
+      elim (cases_Bool (u == version work)) [
+        | inl same ↦ absurd (let now = ap (has_result before work.contract) (sym (eqb-true u (version work) same)) ∙ has in let lacks = claims.2.claimable.no_result in cc)
+        | inr other ↦ other
+      ],
+    )
+
+    abbrev rows : ℕ
+    rows = length (run_of before.portfolio.contracts (take (version work) (entries_of before)) work.contract).rows
+
+    rows-are : length (outcome work).rows ≡ rows
+    rows-are = ap (λ (entries : List Obs). length (run_of work.portfolio.contracts entries work.contract).rows) claims.1.entries ∙ ap (λ (p : Accepted). length (run_of p.contracts (take (version work) (entries_of before)) work.contract).rows) claims.1.portfolio
+
+    left-by : (last : Option ℕ) → cached_version before work.contract ≡ last → (fresh : ℕ) → fresh + length (kept_at before.portfolio.contracts (entries_of before) work.contract (version work) last).rows ≡ rows
+        → fresh ≡ fresh_rows before.portfolio.contracts (entries_of before) work.contract last (version work)
+    left-by None is fresh all = omega (arith, all)
+    left-by (Some u) is fresh all =
+        let parts = earlier u (cached-has work.contract before u is) in
+        let least : min u (version work) ≡ u = omega (arith, parts.0) in
+        let most : max u (version work) ≡ version work = omega (arith, parts.0) in
+        rw parts.1 (omega (arith, rw (least, most) at all))
+
+    fresh-left : (fresh : ℕ) → fresh + length work.kept.rows ≡ length (outcome work).rows → fresh ≡ rows_left before work.contract (version work)
+    fresh-left fresh all = left-by (cached_version before work.contract) refl fresh (ap (λ (k : KeptRows). fresh + length k.rows) (sym claims.4) ∙ (all ∙ rows-are))
+
+    pub goes-on : (after : History) (fresh ticks now : ℕ) → after ≡ after_finish mid work.contract (version work) → fresh + length work.kept.rows ≡ length (outcome work).rows
+        → now + length work.kept.rows ≡ ticks + length (outcome work).rows → GoesOn true before after ticks now
+    goes-on after fresh ticks now finished all ticked = (
+      work.contract,
+      version work,
+      claims.2.claimable,
+      finished ∙ (rw under-way (ap (λ (h : History). and_then h (mark.Finish work.contract (version work))) mid-is)),
+      omega (arith, all, ticked, fresh-left fresh all),
+    )
 
 -- ---- one evaluation after another
-
--- the counter goes up by as many rows as were made
-abbrev pub Ticks : Accepted → History → History → ℕ → ℕ → Type 0
-Ticks portfolio first now before ticks =
-    (book : List Obs) → take (version_of first) book ≡ entries_of first → ticks + rows_made portfolio.contracts book (has_result first) ≡ before + rows_made portfolio.contracts book (has_result now)
 
 -- how far a loop of evaluations is
 pub record IsOn (portfolio : Accepted) (first now : History) (before ticks : ℕ) (more : Bool) : Type 0 where
   pub quiet : IsQuiet portfolio now
   pub works : OnlyWorks first now
-  pub ticked : Ticks portfolio first now before ticks
+  pub ticked : ticks ≡ before + rows_since first now
+  pub later : IsLater first now
+  pub stays : (c v : ℕ) → has_result first c v ≡ true → has_result now c v ≡ true
   pub none : more ≡ false → NoneIsClaimable now
 
 -- what is left of it
 abbrev pub turns_left : History → Bool → ℕ
 turns_left history more = lacking history + cond more 1 0
 
+-- nothing is made before anything is
+and-not : (b : Bool) → (b && not b) ≡ false
+and-not true = refl
+and-not false = refl
+
+none-made : (history : History) (c : ℕ) → made_since history history c ≡ false
+none-made history c = and-not (has_result history c (version_of history))
+
 pub on-first : (portfolio : Accepted) (history : History) (ticks : ℕ) → IsQuiet portfolio history → IsOn portfolio history history ticks ticks true
 on-first portfolio history ticks quiet = record {
   quiet = quiet;
   works = record { portfolio = refl; quotas = refl; items = refl; appended = refl; collected = refl };
-  ticked = λ book begins. refl;
+  ticked = omega (
+    arith,
+    sum-none (λ c. cond (made_since history history c) (rows_left history c (version_of history)) 0) 0 (length history.portfolio.contracts.terms)
+        (λ c. ap (λ (b : Bool). cond b (rows_left history c (version_of history)) 0) (none-made history c)),
+  );
+  later = λ c. ap (λ (b : Bool). cond b (Some (version_of history)) (cached_version history c)) (sym (none-made history c));
+  stays = λ c v has. has;
   none = λ is. absurd (cc);
 }
+
+-- of a history that goes on, the rows of an evaluation are those that they were at first
+rows-same : (first before : History) → before.portfolio ≡ first.portfolio → entries_of before ≡ entries_of first → (c : ℕ) → cached_version before c ≡ cached_version first c → rows_left before c (version_of before) ≡ rows_left first c (version_of first)
+rows-same first before portfolio entries c same =
+    ap (λ (p : Accepted). fresh_rows p.contracts (entries_of before) c (cached_version before c) (version_of before)) portfolio
+    ∙ (ap (λ (es : List Obs). fresh_rows first.portfolio.contracts es c (cached_version before c) (length es)) entries
+    ∙ ap (λ (last : Option ℕ). fresh_rows first.portfolio.contracts (entries_of first) c last (version_of first)) same)
+
+module _ (portfolio : Accepted) (first before : History) (quiet : IsQuiet portfolio before) (works : OnlyWorks first before) (later : IsLater first before) (stays : (c v : ℕ) → has_result first c v ≡ true → has_result before c v ≡ true) (c v : ℕ)
+    (claimable : IsClaimable before c v) where
+  abbrev next : History
+  next = made portfolio before quiet c v claimable
+
+  entries : entries_of before ≡ entries_of first
+  entries = ap book_of works.items
+
+  at-first : v ≡ version_of first
+  at-first = version-now portfolio before quiet c v claimable ∙ ap length entries
+
+  lacked : has_result first c (version_of first) ≡ false
+  lacked = elim (cases_Bool (has_result first c (version_of first))) [
+    | inl has ↦ absurd (let still = stays c (version_of first) has in let none = ap (has_result before c) (sym at-first) ∙ claimable.no_result in cc)
+    | inr lacks ↦ lacks
+  ]
+
+  unmade : made_since first before c ≡ false
+  unmade = rw (ap (has_result before c) (sym at-first) ∙ claimable.no_result) refl
+
+  made-now : made_since first next c ≡ true
+  made-now = rw (ap (has_result next c) (sym at-first) ∙ made-it portfolio before quiet c v claimable, lacked) refl
+
+  unmade-still : (d : ℕ) → d ≢ c → made_since first next d ≡ made_since first before d
+  unmade-still d apart = ap (λ (b : Bool). b && not (has_result first d (version_of first))) (made-other portfolio before quiet c v claimable d (version_of first) (λ both. apart both.0))
+
+  pub later-next : IsLater first next
+  later-next d = elim (cases_Bool (c == d)) [
+    | inl this ↦
+        let same = eqb-true c d this in
+        subst (λ (e : ℕ). cached_version next e ≡ cond (made_since first next e) (Some (version_of first)) (cached_version first e)) same
+        (rw made-now (made-latest portfolio before quiet c v claimable ∙ ap {B = Option ℕ} (λ (n : ℕ). Some n) at-first))
+    | inr other ↦
+        made-latest-other portfolio before quiet c v claimable d other
+        ∙ (later d ∙ ap (λ (b : Bool). cond b (Some (version_of first)) (cached_version first d)) (sym (unmade-still d (λ is. absurd (let same = eq-eqb c d (sym is) in cc)))))
+  ]
+
+  pub rows-next : rows_since first next ≡ rows_since first before + rows_left before c v
+  rows-next =
+      let delta : rows_left before c v ≡ rows_left first c (version_of first) =
+      ap (rows_left before c) (version-now portfolio before quiet c v claimable)
+      ∙ rows-same first before works.portfolio entries c (later c ∙ ap (λ (b : Bool). cond b (Some (version_of first)) (cached_version first c)) unmade) in
+      let within : c < length first.portfolio.contracts.terms = omega (arith, claimable.wanted.contract, ap (λ (p : Accepted). length p.contracts.terms) works.portfolio) in
+      sum-more (λ d. cond (made_since first before d) (rows_left first d (version_of first)) 0) (λ d. cond (made_since first next d) (rows_left first d (version_of first)) 0) c (rows_left before c v) 0 (length first.portfolio.contracts.terms) (omega arith)
+      (omega (arith, within))
+      (λ d apart. ap (λ (b : Bool). cond b (rows_left first d (version_of first)) 0) (unmade-still d apart))
+      (rw (made-now, unmade) (omega (arith, delta)))
 
 module _ (portfolio : Accepted) (first before after : History) (ticks now then : ℕ) (was : Bool) (on : IsOn portfolio first before ticks now was) where
   pub on-next : (more : Bool) → GoesOn more before after now then → IsOn portfolio first after ticks then more
@@ -290,16 +379,17 @@ module _ (portfolio : Accepted) (first before after : History) (ticks now then :
       appended = made-appended portfolio before on.quiet goes.0 goes.1 goes.2 ∙ on.works.appended;
       collected = made-collected portfolio before on.quiet goes.0 goes.1 goes.2 ∙ on.works.collected;
     });
-    ticked = λ book begins.
-        let entries : entries_of before ≡ entries_of first = ap book_of on.works.items in
-        let more = made-rows portfolio before on.quiet goes.0 goes.1 goes.2 book (ap (λ (k : ℕ). take k book) (ap length entries) ∙ (begins ∙ sym entries)) in
-        omega (arith, on.ticked book begins, goes.4, more, ap (λ (h : History). rows_made portfolio.contracts book (has_result h)) goes.3);
+    ticked = omega (arith, on.ticked, goes.4, rows-next portfolio first before on.quiet on.works on.later on.stays goes.0 goes.1 goes.2, ap (rows_since first) goes.3);
+    later = subst (IsLater first) (sym goes.3) (later-next portfolio first before on.quiet on.works on.later on.stays goes.0 goes.1 goes.2);
+    stays = λ c v has. ap (λ (h : History). has_result h c v) goes.3 ∙ made-stays portfolio before on.quiet goes.0 goes.1 goes.2 c v (on.stays c v has);
     none = λ is. absurd (cc);
   }
   on-next false goes = record {
     quiet = subst (IsQuiet portfolio) (sym goes.1) on.quiet;
     works = subst (OnlyWorks first) (sym goes.1) on.works;
-    ticked = λ book begins. omega (arith, on.ticked book begins, goes.2, ap (λ (h : History). rows_made portfolio.contracts book (has_result h)) goes.1);
+    ticked = omega (arith, on.ticked, goes.2, ap (rows_since first) goes.1);
+    later = subst (IsLater first) (sym goes.1) on.later;
+    stays = λ c v has. ap (λ (h : History). has_result h c v) goes.1 ∙ on.stays c v has;
     none = λ is. subst NoneIsClaimable (sym goes.1) goes.0;
   }
 

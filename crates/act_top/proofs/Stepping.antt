@@ -1,13 +1,12 @@
--- The steps of the one caller of a board, and the rows that are calculated for them.
-use Rattle.std.proofs.Common.{◌≡◌, ◌&&◌, Option, nat_lt, ℕ, zero, suc, ◌+◌, ◌<◌, ◌≤◌, ◌==◌, ◌||◌, cond, Bool, true, false, List, [], ◌∷◌, ◌++◌, length, map, take, drop, Ok, inl, inr, refl, sym, ap, subst, ◌∙◌, arith, eq-eqb, append-nil, append_assoc, length-append, get_or}
+-- The steps of the one caller of a board, and the rows that are computed for them.
+use Rattle.std.proofs.Common.{◌≡◌, ◌&&◌, Option, nat_lt, ℕ, zero, suc, ◌+◌, ◌<◌, ◌≤◌, ◌==◌, cond, Some, sum_by, Bool, true, false, List, [], ◌∷◌, ◌++◌, length, map, take, drop, Ok, inl, inr, refl, sym, ap, subst, ◌∙◌, arith, eq-eqb, append-nil, append_assoc, length-append, get_or}
 use Rattle.std.specs.List.{All, Contains, range_with_len, slice_get}
-use Rattle.std.proofs.lemmas.Bool.{cases_order, eqb-true, ltb-true}
+use Rattle.std.proofs.lemmas.Bool.{cases_Bool, cases_order, ltb-true}
 use Rattle.std.proofs.lemmas.List.{length-drop, take_all, take_at}
-use Rattle.std.proofs.lemmas.List.Elements.{All-map, Contains-append_cases, Contains-append_left, Contains-append_right, Contains-push, Contains-push_cases, filter_map-append}
-use Rattle.std.proofs.lemmas.List.Folds.{list_any-append}
+use Rattle.std.proofs.lemmas.List.Elements.{All-map, Contains-append_left, Contains-push, Contains-push_cases, filter_map-append}
 use Rattle.std.proofs.lemmas.List.FromFn.{get_or-range_with_len, length-range_with_len}
 use Rattle.act_model.specs.Answer.{Reply}
-use Rattle.act_model.specs.Asks.{asks_of, caller_asks}
+use Rattle.act_model.specs.Asks.{caller_asks}
 use Rattle.act_model.specs.Journal.{book_of, contracts_of, entry_of, is_known}
 use Rattle.act_model.specs.Names.{NameLists}
 use Rattle.act_model.specs.Run.{Stream}
@@ -21,21 +20,21 @@ use Rattle.act_model.specs.declared.observed.Obs.{Obs}
 use Rattle.act_model.proofs.AsksInTurn.{asks_in_turn}
 use Rattle.act_portfolio.specs.Reading.{Accepted}
 use Rattle.act_profile.specs.Answers.{answer_to}
-use Rattle.act_profile.specs.Reads.{cone_to, is_in}
-use Rattle.act_profile.specs.Run.{Contracts, deepest, run_of}
+use Rattle.act_profile.specs.Reads.{is_in}
+use Rattle.act_profile.specs.Run.{Contracts, run_of}
 use Rattle.act_refs.specs.Ordered.{order_of}
 use Rattle.act_refs.specs.Path.{IsChild}
 use Rattle.act_board.specs.History.{History, IsWanted, and_then, appended_by, asks_by, collected_by, entries_of, has_result, is_append_by, is_collect_by, is_give_up, is_leave_by, journal_of, open_asks, version_of}
+use Rattle.act_board.specs.Latest.{cached_version}
 use Rattle.act_board.specs.Legal.{HasQuota, IsOldest, IsReady, NoneIsClaimable}
-use Rattle.act_board.specs.Reached.{is_reached}
 use Rattle.act_board.specs.declared.mark.Mark.{Mark}
 use Rattle.act_board.specs.declared.mark.Mark.TheVariants as mark
 use Rattle.act_board.proofs.Going.{any-not, asks-append, asks-own, asks-same, count-not, count-yes, entries-ask, entries-more, entries-same, journal-more, journal-same, open-less, open-more, open-same}
 use Rattle.act_board.proofs.Pairs.{claimed-same, result-same}
-use Rattle.act_board.proofs.Reaching.{either, left-so, reached-self, right-so}
-use Rattle.act_top.specs.Driven.{Adds, IsAnswered, IsDriven, IsQuiet, OnlyWorks, is_reached_by, rows_at, rows_made, rows_of}
+use Rattle.act_board.proofs.Reaching.{left-so, reached-self, right-so}
+use Rattle.act_top.specs.Driven.{Adds, AreLatest, IsAnswered, IsDriven, IsLater, IsQuiet, OnlyWorks, is_reached_by, made_since, next_ask, rows_left, rows_since}
 use Rattle.act_top.specs.Output.{ends_well, items_of}
-use Rattle.act_top.specs.Reached.{asked_at, rows_calculated, rows_reached}
+use Rattle.act_top.specs.Work.{ask_work, asks_work, fresh_rows, last_version, reaches, work_of}
 use Rattle.act_io.specs.Put.{written_after}
 use Rattle.act_model.specs.declared.journal.Step.{Step}
 use Rattle.act_print.specs.Printed.{printed_answer}
@@ -47,20 +46,9 @@ use Rattle.act_top.proofs.Texts.{left-part, written-nothing}
 use Rattle.act_top.specs.Ready.{answers_text}
 use Rattle.act_top.proofs.Answering.{Answering, answering-append, answering-ask, answering-part, answers_from, asks-at-ask, one-caller}
 use Rattle.act_top.proofs.Quiet.{none-lacks}
-use Rattle.act_top.proofs.Totals.{sum-filter, sum-none, sum-same}
-
--- ---- rows
-
--- the same results make the same rows
-pub made-same-rows : (contracts : Contracts) (book : List Obs) (has has' : ℕ → ℕ → Bool) → ((c v : ℕ) → has' c v ≡ has c v) → rows_made contracts book has' ≡ rows_made contracts book has
-made-same-rows contracts book has has' same =
-    sum-same (rows_at contracts book has') (rows_at contracts book has) 0 (length book + 1)
-    (λ v from under. sum-same (λ c. cond (has' c v) (rows_of contracts book c v) 0) (λ c. cond (has c v) (rows_of contracts book c v) 0) 0 (length contracts.terms)
-    (λ c above below. ap (λ (b : Bool). cond b (rows_of contracts book c v) 0) (same c v)))
-
--- no results make none
-pub made-none : (contracts : Contracts) (book : List Obs) → rows_made contracts book (λ c v. false) ≡ 0
-made-none contracts book = sum-none (rows_at contracts book (λ c v. false)) 0 (length book + 1) (λ v. sum-none (λ c. 0) 0 (length contracts.terms) (λ c. refl))
+use Rattle.act_top.proofs.Latest.{cached-has, cached-same}
+use Rattle.act_top.proofs.Totals.{sum-filter, sum-same}
+use Rattle.act_top.proofs.Working.{and-false, fresh-same, last-push, none-fresh}
 
 -- a number is in a range
 in-range : (a m c : ℕ) → a ≤ c → c < a + m → is_in (range_with_len a m) c ≡ true
@@ -104,7 +92,7 @@ module _ (portfolio : Accepted) (history : History) (quiet : IsQuiet portfolio h
     ask-item = record { caller = 1; step = step.Ask asked }
 
     abbrev pub the-ask : Asking
-    the-ask = record { caller = 1; number = 1 + length (asks_by history 1); version = version_of history; asked = asked }
+    the-ask = next_ask history asked
 
     pub ask-items : journal_of after-ask ≡ journal_of history ++ ask-item ∷ []
     ask-items = journal-more history ask-mark ask-item refl
@@ -126,6 +114,9 @@ module _ (portfolio : Accepted) (history : History) (quiet : IsQuiet portfolio h
 
     pub ask-results : (c v : ℕ) → has_result after-ask c v ≡ has_result history c v
     ask-results c v = result-same history ask-mark c v refl
+
+    pub ask-latest : (c : ℕ) → cached_version after-ask c ≡ cached_version history c
+    ask-latest c = cached-same c history ask-mark refl
 
     pub quiet-asked : IsQuiet portfolio after-ask
     quiet-asked = record {
@@ -149,6 +140,8 @@ module _ (portfolio : Accepted) (history : History) (quiet : IsQuiet portfolio h
         | inl none ↦ absurd (nowhere ask none)
         | inr new ↦ ap (λ (a : Asking). a.version) (sym new) ∙ sym (ap length ask-entries)
       ];
+      past = λ c v has. omega (arith, quiet.past c v (sym (ask-results c v) ∙ has), ap length ask-entries);
+      newest = λ c has. ask-latest c ∙ (quiet.newest c (sym (ask-results c (version_of history)) ∙ (ap (has_result after-ask c) (sym (ap length ask-entries)) ∙ has)) ∙ ap {B = Option ℕ} (λ (n : ℕ). Some n) (sym (ap length ask-entries)));
     }
 
   -- ---- what is asked for is there
@@ -202,6 +195,9 @@ module _ (portfolio : Accepted) (history : History) (quiet : IsQuiet portfolio h
     pub collect-results : (c v : ℕ) → has_result after-collect c v ≡ has_result history c v
     collect-results c v = result-same history collect-mark c v refl
 
+    collect-latest : (c : ℕ) → cached_version after-collect c ≡ cached_version history c
+    collect-latest c = cached-same c history collect-mark refl
+
     pub quiet-collected : IsQuiet portfolio after-collect
     quiet-collected = record {
       portfolio = quiet.portfolio;
@@ -221,6 +217,8 @@ module _ (portfolio : Accepted) (history : History) (quiet : IsQuiet portfolio h
         | inr had ↦ λ c within reached. collect-results c one.version ∙ had c within reached
       ]);
       now = λ one waits. absurd (nowhere one (subst (λ (asks : List Asking). Contains asks one) collect-open waits));
+      past = λ c v has. omega (arith, quiet.past c v (sym (collect-results c v) ∙ has), ap length collect-entries);
+      newest = λ c has. collect-latest c ∙ (quiet.newest c (sym (collect-results c (version_of history)) ∙ (ap (has_result after-collect c) (sym (ap length collect-entries)) ∙ has)) ∙ ap {B = Option ℕ} (λ (n : ℕ). Some n) (sym (ap length collect-entries)));
     }
 
   -- ---- an entry
@@ -235,7 +233,7 @@ module _ (portfolio : Accepted) (history : History) (quiet : IsQuiet portfolio h
     abbrev pub append-item : Item
     append-item = record { caller = 1; step = step.Append entry }
 
-    append-asks : asks_by after-append 1 ≡ asks_by history 1
+    pub append-asks : asks_by after-append 1 ≡ asks_by history 1
     append-asks = asks-append 1 history append-mark append-item entry refl refl
 
     pub append-open : open_asks after-append 1 ≡ []
@@ -249,6 +247,15 @@ module _ (portfolio : Accepted) (history : History) (quiet : IsQuiet portfolio h
 
     pub append-results : (c v : ℕ) → has_result after-append c v ≡ has_result history c v
     append-results c v = result-same history append-mark c v refl
+
+    append-latest : (c : ℕ) → cached_version after-append c ≡ cached_version history c
+    append-latest c = cached-same c history append-mark refl
+
+    append-version : version_of after-append ≡ version_of history + 1
+    append-version = ap length append-entries ∙ length-append (entries_of history) (entry ∷ [])
+
+    pub latest-appended : AreLatest portfolio history → AreLatest portfolio after-append
+    latest-appended are c within = append-latest c ∙ (are c within ∙ ap (λ (asks : List Asking). last_version portfolio asks c) (sym append-asks))
 
     pub quiet-appended : IsQuiet portfolio after-append
     quiet-appended = record {
@@ -266,6 +273,8 @@ module _ (portfolio : Accepted) (history : History) (quiet : IsQuiet portfolio h
         | inr had ↦ λ c within reached. append-results c one.version ∙ had c within reached
       ]);
       now = λ one waits. absurd (nowhere one (subst (λ (asks : List Asking). Contains asks one) append-open waits));
+      past = λ c v has. omega (arith, quiet.past c v (sym (append-results c v) ∙ has), append-version);
+      newest = λ c has. absurd (omega (arith, quiet.past c (version_of after-append) (sym (append-results c (version_of after-append)) ∙ has), append-version));
     }
 
 -- ---- an ask and its answer
@@ -291,29 +300,120 @@ module _ (portfolio : Accepted) (first last : History) (quiet : IsQuiet portfoli
   entries-last : entries_of last ≡ entries_of first
   entries-last = ap book_of works.items ∙ ask-entries portfolio first quiet closed asked
 
-  pub adds-ask : Adds (record { caller = 1; step = step.Ask asked }) first answered-last
+  asks-last : asks_by last 1 ≡ asks_by first 1 ++ ask-made ∷ []
+  asks-last = ap (λ (items : List Item). caller_asks items 1) works.items ∙ ask-asks portfolio first quiet closed asked
+
+  asks-answered : asks_by answered-last 1 ≡ asks_by first 1 ++ ask-made ∷ []
+  asks-answered = asks-same 1 last (mark.Collect 1) refl ∙ asks-last
+
+  pub adds-ask : Adds asked first answered-last
   adds-ask = record {
     quotas = works.quotas;
     items = items-last;
     appended = count-not (is_append_by 1) last.marks (mark.Collect 1) refl ∙ (works.appended ∙ ask-appended portfolio first quiet closed asked);
-    asked = ap (λ (items : List Item). length (caller_asks items 1)) (journal-same last (mark.Collect 1) refl ∙ works.items)
-        ∙ (ap length (ask-asks portfolio first quiet closed asked) ∙ length-append (asks_by first 1) (ask-made ∷ []));
+    asks = asks-answered;
     entries = entries-same last (mark.Collect 1) refl ∙ entries-last;
   }
 
   pub answer-is : answer_to last.portfolio.contracts last.portfolio.names (entries_of last) ask-made ≡ answer_to portfolio.contracts portfolio.names (entries_of first) ask-made
   answer-is = ap (λ (p : Accepted). answer_to p.contracts p.names (entries_of last) ask-made) still.portfolio ∙ ap (λ (entries : List Obs). answer_to portfolio.contracts portfolio.names entries ask-made) entries-last
 
-  pub ticks-ask : (before now : ℕ) → ((book : List Obs) → take (version_of middle) book ≡ entries_of middle → now + rows_made portfolio.contracts book (has_result middle) ≡ before + rows_made portfolio.contracts book (has_result last))
-      → (book : List Obs) → take (version_of first) book ≡ entries_of first → now + rows_made portfolio.contracts book (has_result first) ≡ before + rows_made portfolio.contracts book (has_result answered-last)
-  ticks-ask before now ticked book begins =
-      let entries = ask-entries portfolio first quiet closed asked in
-      omega (
-        arith,
-        ticked book (ap (λ (k : ℕ). take k book) (ap length entries) ∙ (begins ∙ sym entries)),
-        made-same-rows portfolio.contracts book (has_result first) (has_result middle) (ask-results portfolio first quiet closed asked),
-        made-same-rows portfolio.contracts book (has_result last) (has_result answered-last) (λ c v. result-same last (mark.Collect 1) c v refl),
-      )
+  -- ---- the rows of an ask
+
+  module _ (later : IsLater middle last) (all : IsAnswered last ask-made) (are : AreLatest portfolio first) (c : ℕ) (within : c < length portfolio.contracts.terms) where
+    version-middle : version_of middle ≡ version_of first
+    version-middle = ap length (ask-entries portfolio first quiet closed asked)
+
+    result-middle : has_result middle c (version_of middle) ≡ has_result first c (version_of first)
+    result-middle = ask-results portfolio first quiet closed asked c (version_of middle) ∙ ap (has_result first c) version-middle
+
+    -- what has a result over all entries already was evaluated for it last
+    latest-had : has_result first c (version_of first) ≡ true → last_version portfolio (asks_by first 1) c ≡ Some (version_of first)
+    latest-had has = sym (are c within) ∙ quiet.newest c has
+
+    unmade-had : has_result first c (version_of first) ≡ true → made_since middle last c ≡ false
+    unmade-had has = rw (result-middle ∙ has) (and-false (has_result last c (version_of middle)))
+
+    made-reached : reaches portfolio ask-made c ≡ true → has_result first c (version_of first) ≡ false → made_since middle last c ≡ true
+    made-reached reached lacked =
+        let within-last : c < length last.portfolio.contracts.terms = omega (arith, within, ap (λ (p : Accepted). length p.contracts.terms) still.portfolio) in
+        let reached-last : is_reached_by last ask-made c ≡ true = ap (λ (p : Accepted). reaches p ask-made c) still.portfolio ∙ reached in
+        rw (result-middle ∙ lacked, ap (has_result last c) version-middle ∙ all c within-last reached-last) refl
+
+    -- what has one now, and had none, is reached by the ask
+    reached-so : has_result last c (version_of first) ≡ true → has_result first c (version_of first) ≡ false → reaches portfolio ask-made c ≡ true
+    reached-so has lacked =
+        let is = still.asked c (version_of first) has in
+        let reached : reaches portfolio is.ask c ≡ true = sym (ap (λ (p : Accepted). reaches p is.ask c) still.portfolio) ∙ is.reached in
+        elim (Contains-push_cases (asks_by first 1) ask-made is.ask (subst (λ (asks : List Asking). Contains asks is.ask) asks-last is.made)) [
+          | inl before ↦ elim (quiet.answered is.ask before) [
+            | inl waits ↦ absurd (nowhere is.ask (subst (λ (asks : List Asking). Contains asks is.ask) closed waits))
+            | inr had ↦
+                let within-first : c < length first.portfolio.contracts.terms = omega (arith, within, ap (λ (p : Accepted). length p.contracts.terms) quiet.portfolio) in
+                let result : has_result first c (version_of first) ≡ true =
+                ap (has_result first c) (sym is.version) ∙ had c within-first (ap (λ (p : Accepted). reaches p is.ask c) quiet.portfolio ∙ reached) in
+                absurd (cc)
+          ]
+          | inr new ↦ ap (λ (a : Asking). reaches portfolio a c) new ∙ reached
+        ]
+
+    unmade-unreached : reaches portfolio ask-made c ≡ false → made_since middle last c ≡ false
+    unmade-unreached unreached = elim (cases_Bool (has_result first c (version_of first))) [
+      | inl had ↦ unmade-had had
+      | inr lacked ↦ elim (cases_Bool (has_result last c (version_of first))) [
+        | inl has ↦ absurd (let reached = reached-so has lacked in cc)
+        | inr lacks ↦ rw (ap (has_result last c) version-middle ∙ lacks) refl
+      ]
+    ]
+
+    latest-one : cached_version answered-last c ≡ last_version portfolio (asks_by answered-last 1) c
+    latest-one =
+        cached-same c last (mark.Collect 1) refl
+        ∙ (later c
+        ∙ (ap (λ (n : ℕ). cond (made_since middle last c) (Some n) (cached_version middle c)) version-middle
+        ∙ (ap (λ (o : Option ℕ). cond (made_since middle last c) (Some (version_of first)) o) (ask-latest portfolio first quiet closed asked c ∙ are c within)
+        ∙ (by (reaches portfolio ask-made c) refl
+        ∙ (sym (last-push portfolio (asks_by first 1) ask-made c) ∙ ap (λ (asks : List Asking). last_version portfolio asks c) (sym asks-answered))))))
+      where
+        by : (reached : Bool) → reaches portfolio ask-made c ≡ reached
+            → cond (made_since middle last c) (Some (version_of first)) (last_version portfolio (asks_by first 1) c) ≡ cond (reaches portfolio ask-made c) (Some (version_of first)) (last_version portfolio (asks_by first 1) c)
+        by true is = elim (cases_Bool (has_result first c (version_of first))) [
+          | inl had ↦ rw (unmade-had had, is) (latest-had had)
+          | inr lacked ↦ rw (made-reached is lacked, is) refl
+        ]
+        by false is = rw (unmade-unreached is, is) refl
+
+    rows-one : (book : List Obs) → take (version_of first) book ≡ entries_of first
+        → cond (made_since middle last c) (rows_left middle c (version_of middle)) 0 ≡ cond (reaches portfolio ask-made c) (fresh_rows portfolio.contracts book c (last_version portfolio (asks_by first 1) c) (version_of first)) 0
+    rows-one book begins = by (reaches portfolio ask-made c) refl
+      where
+        fresh : rows_left middle c (version_of middle) ≡ fresh_rows portfolio.contracts book c (last_version portfolio (asks_by first 1) c) (version_of first)
+        fresh =
+            ap (λ (p : Accepted). fresh_rows p.contracts (entries_of middle) c (cached_version middle c) (version_of middle)) quiet.portfolio
+            ∙ (ap (λ (es : List Obs). fresh_rows portfolio.contracts es c (cached_version middle c) (length es)) (ask-entries portfolio first quiet closed asked)
+            ∙ (ap (λ (o : Option ℕ). fresh_rows portfolio.contracts (entries_of first) c o (version_of first)) (ask-latest portfolio first quiet closed asked c)
+            ∙ (fresh-same portfolio.contracts c (entries_of first) book begins (cached_version first c) (λ u is. quiet.past c u (cached-has c first u is))
+            ∙ ap (λ (o : Option ℕ). fresh_rows portfolio.contracts book c o (version_of first)) (are c within))))
+
+        by : (reached : Bool) → reaches portfolio ask-made c ≡ reached
+            → cond (made_since middle last c) (rows_left middle c (version_of middle)) 0 ≡ cond (reaches portfolio ask-made c) (fresh_rows portfolio.contracts book c (last_version portfolio (asks_by first 1) c) (version_of first)) 0
+        by true is = elim (cases_Bool (has_result first c (version_of first))) [
+          | inl had ↦ rw (unmade-had had, is, latest-had had) (sym (none-fresh portfolio.contracts book c (version_of first)))
+          | inr lacked ↦ rw (made-reached is lacked, is) fresh
+        ]
+        by false is = rw (unmade-unreached is, is) refl
+
+  pub latest-answered : IsLater middle last → IsAnswered last ask-made → AreLatest portfolio first → AreLatest portfolio answered-last
+  latest-answered later all are c within = latest-one later all are c within
+
+  pub ticks-ask : (before now : ℕ) → now ≡ before + rows_since middle last → IsLater middle last → IsAnswered last ask-made → AreLatest portfolio first
+      → (book : List Obs) → take (version_of first) book ≡ entries_of first → now ≡ before + ask_work portfolio book (asks_by first 1) ask-made
+  ticks-ask before now ticked later all are book begins =
+      let fresh : ℕ → ℕ = λ c. fresh_rows portfolio.contracts book c (last_version portfolio (asks_by first 1) c) (version_of first) in
+      let left : ℕ → ℕ = λ c. cond (made_since middle last c) (rows_left middle c (version_of middle)) 0 in
+      let range : rows_since middle last ≡ sum_by left (range_with_len 0 (length portfolio.contracts.terms)) = ap (λ (p : Accepted). sum_by left (range_with_len 0 (length p.contracts.terms))) quiet.portfolio in
+      let same = sum-same left (λ c. cond (reaches portfolio ask-made c) (fresh c) 0) 0 (length portfolio.contracts.terms) (λ c from under. rows-one later all are c (omega (arith, under)) book begins) in
+      omega (arith, ticked, range, same, sum-filter fresh (reaches portfolio ask-made) (range_with_len 0 (length portfolio.contracts.terms)))
 
 -- ---- the steps of a script
 
@@ -339,16 +439,18 @@ module _ (portfolio : Accepted) (all left : List Item) where
       items = ap (λ (items : List Item). items ++ left) (journal-more history (mark.Append 1 entry) (record { caller = 1; step = step.Append entry }) refl)
           ∙ (append_assoc (journal_of history) (record { caller = 1; step = step.Append entry } ∷ []) left ∙ driven.items);
       appended = omega (arith, count-yes (is_append_by 1) history.marks (mark.Append 1 entry) refl, ap length (append-entries portfolio history driven.quiet driven.closed entry), length-append (entries_of history) (entry ∷ []), driven.appended);
+      latest = latest-appended portfolio history driven.quiet driven.closed entry driven.latest;
     }
 
   pub driven-ask : (history after : History) (asked : Asked) → IsDriven portfolio all (record { caller = 1; step = step.Ask asked } ∷ left) history → IsQuiet portfolio after → open_asks after 1 ≡ []
-      → Adds (record { caller = 1; step = step.Ask asked }) history after → IsDriven portfolio all left after
-  driven-ask history after asked driven quiet closed adds = record {
+      → Adds asked history after → AreLatest portfolio after → IsDriven portfolio all left after
+  driven-ask history after asked driven quiet closed adds are = record {
     quiet = quiet;
     closed = closed;
     quotas = adds.quotas ∙ driven.quotas;
     items = ap (λ (items : List Item). items ++ left) adds.items ∙ (append_assoc (journal_of history) (record { caller = 1; step = step.Ask asked } ∷ []) left ∙ driven.items);
     appended = adds.appended ∙ (driven.appended ∙ sym (ap length adds.entries));
+    latest = are;
   }
 
 -- the answer over the entries so far is that over the whole book
@@ -366,90 +468,11 @@ answer-same contracts names others entries book ask same begins =
 
 -- ---- the rows of all
 
-module _ (contracts : Contracts) (names : NameLists) (c v : ℕ) where
-  abbrev pub reached-in : List ℕ → Bool
-  reached-in asked = is_reached contracts asked c
-
-  more-asked : (ask : Asking) (asks : List Asking) (same : Bool) → (ask.version == v) ≡ same → reached-in (asked_at names (ask ∷ asks) v) ≡ (cond same (reached-in (contracts_of names ask.asked)) false || reached-in (asked_at names asks v))
-  more-asked ask asks true is = rw is (list_any-append (λ a. is_in (cone_to deepest contracts a) c) (contracts_of names ask.asked) (asked_at names asks v))
-  more-asked ask asks false is = rw is refl
-
-  pub joined-asked : (asks : List Asking) → reached-in (asked_at names asks v) ≡ true → (ask : Asking) × Contains asks ask × (ask.version ≡ v) × (reached-in (contracts_of names ask.asked) ≡ true)
-  joined-asked [] is = absurd (cc)
-  joined-asked (ask ∷ asks) is = by (joined-asked asks) (ask.version == v) refl
-    where
-      later : (reached-in (asked_at names asks v) ≡ true → (one : Asking) × Contains asks one × (one.version ≡ v) × (reached-in (contracts_of names one.asked) ≡ true))
-          → reached-in (asked_at names asks v) ≡ true → (one : Asking) × Contains (ask ∷ asks) one × (one.version ≡ v) × (reached-in (contracts_of names one.asked) ≡ true)
-      later found so = let rest = found so in (rest.0, Contains-append_right (ask ∷ []) asks rest.0 rest.1, rest.2, rest.3)
-
-      by : (reached-in (asked_at names asks v) ≡ true → (one : Asking) × Contains asks one × (one.version ≡ v) × (reached-in (contracts_of names one.asked) ≡ true))
-          → (same : Bool) → (ask.version == v) ≡ same → (one : Asking) × Contains (ask ∷ asks) one × (one.version ≡ v) × (reached-in (contracts_of names one.asked) ≡ true)
-      by found true so = elim (either (reached-in (contracts_of names ask.asked)) (reached-in (asked_at names asks v)) (sym (more-asked ask asks true so) ∙ is)) [
-        | inl here ↦ (ask, Contains-append_left (ask ∷ []) asks ask (Contains-push [] ask), eqb-true ask.version v so, here)
-        | inr behind ↦ later found behind
-      ]
-      by found false so = later found (sym (more-asked ask asks false so) ∙ is)
-
-  pub asked-joined : (asks : List Asking) (one : Asking) → Contains asks one → one.version ≡ v → reached-in (contracts_of names one.asked) ≡ true → reached-in (asked_at names asks v) ≡ true
-  asked-joined [] one there version reached = absurd (nowhere one there)
-  asked-joined (ask ∷ asks) one there version reached = elim (Contains-append_cases (ask ∷ []) asks one there) [
-    | inl first ↦ elim (Contains-push_cases [] ask one first) [
-      | inl none ↦ absurd (nowhere one none)
-      | inr same ↦
-          more-asked ask asks true (eq-eqb ask.version v (ap (λ (a : Asking). a.version) same ∙ version))
-          ∙ left-so (reached-in (contracts_of names ask.asked)) (reached-in (asked_at names asks v)) (ap (λ (a : Asking). reached-in (contracts_of names a.asked)) same ∙ reached)
-    ]
-    | inr behind ↦
-        more-asked ask asks (ask.version == v) refl
-        ∙ right-so (cond (ask.version == v) (reached-in (contracts_of names ask.asked)) false) (reached-in (asked_at names asks v)) (asked-joined asks one behind version reached)
-  ]
-
-both-ways : (a b : Bool) → (a ≡ true → b ≡ true) → (b ≡ true → a ≡ true) → a ≡ b
-both-ways true b to from = sym (to refl)
-both-ways false true to from = from refl
-both-ways false false to from = refl
-
-pub rows-all : (portfolio : Accepted) (names : NameLists) (lines : List Line) (history : History) → names.contracts ≡ portfolio.names.contracts → IsDriven portfolio (items_of lines) [] history
-    → rows_made portfolio.contracts (book_of (items_of lines)) (has_result history) ≡ rows_calculated portfolio.contracts names (items_of lines)
-rows-all portfolio names lines history same driven =
-    sum-same (rows_at portfolio.contracts book (has_result history)) (λ v. rows_reached portfolio.contracts (take v book) (asked_at names asks v)) 0 (length book + 1)
-    (λ v from under.
-    sum-same (λ c. cond (has_result history c v) (rows_of portfolio.contracts book c v) 0) (λ c. cond (is_reached portfolio.contracts (asked_at names asks v) c) (rows_of portfolio.contracts book c v) 0) 0 (length portfolio.contracts.terms)
-    (λ c above below. ap (λ (b : Bool). cond b (rows_of portfolio.contracts book c v) 0) (both-ways (has_result history c v) (is_reached portfolio.contracts (asked_at names asks v) c) (to c v) (back c v below)))
-    ∙ sym (sum-filter (λ c. rows_of portfolio.contracts book c v) (is_reached portfolio.contracts (asked_at names asks v)) (range_with_len 0 (length portfolio.contracts.terms))))
-  where
-    book : List Obs
-    book = book_of (items_of lines)
-
-    asks : List Asking
-    asks = asks_of (items_of lines)
-
-    quiet : IsQuiet portfolio history
-    quiet = driven.quiet
-
-    asks-are : asks ≡ asks_by history 1
-    asks-are = one-caller lines ∙ (sym (asks_in_turn (items_of lines) 1) ∙ ap (λ (items : List Item). caller_asks items 1) (sym driven.items ∙ append-nil (journal_of history)))
-
-    contracts-same : (asked : Asked) → contracts_of history.portfolio.names asked ≡ contracts_of names asked
-    contracts-same asking.All = ap (λ (ids : List (List ℕ)). range_with_len 0 (length ids)) (ap (λ (p : Accepted). p.names.contracts) quiet.portfolio ∙ sym same)
-    contracts-same (asking.One contract) = refl
-
-    reached-same : (ask : Asking) (c : ℕ) → is_reached_by history ask c ≡ is_reached portfolio.contracts (contracts_of names ask.asked) c
-    reached-same ask c = ap (λ (asked : List ℕ). is_reached history.portfolio.contracts asked c) (contracts-same ask.asked) ∙ ap (λ (p : Accepted). is_reached p.contracts (contracts_of names ask.asked) c) quiet.portfolio
-
-    to : (c v : ℕ) → has_result history c v ≡ true → is_reached portfolio.contracts (asked_at names asks v) c ≡ true
-    to c v has =
-        let is = quiet.asked c v has in
-        asked-joined portfolio.contracts names c v asks is.ask (subst (λ (list : List Asking). Contains list is.ask) (sym asks-are) is.made) is.version (sym (reached-same is.ask c) ∙ is.reached)
-
-    back : (c v : ℕ) → c < 0 + length portfolio.contracts.terms → is_reached portfolio.contracts (asked_at names asks v) c ≡ true → has_result history c v ≡ true
-    back c v within reached =
-        let found = joined-asked portfolio.contracts names c v asks reached in
-        let within' : c < length history.portfolio.contracts.terms = omega (arith, within, ap (λ (p : Accepted). length p.contracts.terms) quiet.portfolio) in
-        elim (quiet.answered found.0 (subst (λ (list : List Asking). Contains list found.0) asks-are found.1)) [
-          | inl waits ↦ absurd (nowhere found.0 (subst (λ (list : List Asking). Contains list found.0) driven.closed waits))
-          | inr had ↦ ap (has_result history c) (sym found.2) ∙ had c within' (reached-same found.0 c ∙ found.3)
-        ]
+pub work-all : (portfolio : Accepted) (lines : List Line) (history : History) → IsDriven portfolio (items_of lines) [] history
+    → asks_work portfolio (book_of (items_of lines)) [] (asks_by history 1) ≡ work_of portfolio (items_of lines)
+work-all portfolio lines history driven =
+    ap (asks_work portfolio (book_of (items_of lines)) [])
+    (sym (one-caller lines ∙ (sym (asks_in_turn (items_of lines) 1) ∙ ap (λ (items : List Item). caller_asks items 1) (sym driven.items ∙ append-nil (journal_of history)))))
 
 -- ---- a board on which nothing has happened
 
@@ -465,11 +488,14 @@ driven-first portfolio all = record {
     asked = λ c v has. absurd (cc);
     answered = λ ask there. absurd (nowhere ask there);
     now = λ ask there. absurd (nowhere ask there);
+    past = λ c v has. absurd (cc);
+    newest = λ c has. absurd (cc);
   };
   closed = refl;
   quotas = refl;
   items = refl;
   appended = refl;
+  latest = λ c within. refl;
 }
 
 -- ---- what is written on the way
@@ -506,10 +532,10 @@ module _ (portfolio : Accepted) (names : NameLists) (lines : List Line) (history
       whole = answer-same portfolio.contracts portfolio.names names (entries_of history) book (record { caller = 1; number = number history; version = version_of history; asked = asked }) (sym same)
           (take_all (version_of history) (entries_of history) (omega arith) ∙ sym (book-begins portfolio (items_of lines) (items_of left) history (record { caller = 1; step = step.Ask asked } ∷ items_of left) driven.items))
 
-      pub answering-asked : (after : History) (one : Reply) (ends : Bool) (next : Option (List ℕ)) → one ≡ reply asked → Adds (record { caller = 1; step = step.Ask asked }) history after
+      pub answering-asked : (after : History) (one : Reply) (ends : Bool) (next : Option (List ℕ)) → one ≡ reply asked → Adds asked history after
           → next ≡ written_after now (answer_text names (printed_answer one)) → ends ≡ ends_well one → Answering portfolio names book lines left (number after) (version_of after) (ended && ends) before next
       answering-asked after one ends next one-is adds put ends-so =
-          let count : number after ≡ number history + 1 = omega (arith, adds.asked) in
+          let count : number after ≡ number history + 1 = omega (arith, ap length adds.asks, length-append (asks_by history 1) (next_ask history asked ∷ [])) in
           let version : version_of after ≡ version_of history = ap length adds.entries in
           let right = one-is ∙ whole in
           subst (λ (n : ℕ). Answering portfolio names book lines left n (version_of after) (ended && ends) before next) (sym count)

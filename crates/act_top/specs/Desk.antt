@@ -63,7 +63,7 @@ desk_told content (Some words) = job_told content words
 
 -- ---- a run
 
--- an outcome is one of a run: the text of an interleaving of the scripts and of its answers, with their status. How many rows are calculated
+-- an outcome is one of a run: the text of an interleaving of the scripts and of its answers, with their status. How many rows are computed
 -- isn't said
 pub record IsRunOf (job : DeskJob) (outcome : Outcome) : Type 0 where
   pub items : List Item

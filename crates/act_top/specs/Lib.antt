@@ -10,7 +10,7 @@ pub mod Halts
 pub mod Jobs
 pub mod Output
 pub mod Played
-pub mod Reached
 pub mod Ready
 pub mod Scripts
+pub mod Work
 pub mod Written

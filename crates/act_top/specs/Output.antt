@@ -28,7 +28,7 @@ use Rattle.act_script.specs.declared.fault.ScriptFault.{ScriptFault}
 use Rattle.act_script.specs.declared.fault.ScriptFault.TheVariants.{NotLine, UnknownName, EventUnfit, TooManyEntries, NoMemory as NoMemoryToRead}
 use Rattle.act_text.specs.Lines.{line_of}
 use Rattle.act_top.specs.Command.{CommandWords, Verb, Eval, Check}
-use Rattle.act_top.specs.Reached.{rows_calculated}
+use Rattle.act_top.specs.Work.{work_of}
 use Rattle.act_top.specs.declared.top.Status.{Status}
 use Rattle.act_top.specs.declared.writing.Stop.{Stop}
 use Rattle.act_top.specs.declared.writing.Stop.TheVariants.{Sink as SinkStop, Memory}
@@ -52,7 +52,7 @@ status_number WriteFault = 7
 status_number Unfinished = 8
 status_number NoMemory = 9
 
--- a status, what is written with it, and how many rows are calculated for it
+-- a status, what is written with it, and how many rows are computed for it
 pub record Outcome : Type 0 where
   pub status : Status
   pub text : List ℕ
@@ -163,6 +163,14 @@ items_of lines = map (λ (line : Line). record { caller = 1; step = line.step })
 abbrev pub output_of : Accepted → NameLists → List Item → List ℕ
 output_of portfolio names items = text_of names items (map printed_answer (answers_of portfolio.contracts names items))
 
+-- the line of how many rows were computed
+unfoldable pub work_line : ℕ → List ℕ
+work_line work = line_of (codes "work") (decimal work ∷ [])
+
+-- the text of a script's journal and its answers, and behind it the line of its work
+abbrev pub eval_text : Accepted → NameLists → List Item → List ℕ
+eval_text portfolio names items = output_of portfolio names items ++ work_line (work_of portfolio items)
+
 -- a run that wasn't stopped
 abbrev pub is_end : Close → Bool
 is_end End = true
@@ -187,8 +195,8 @@ eval_outcome portfolio script = elim (too_much_asked portfolio (script.lines ∷
   | Some ask ↦ script_refused 5 ask.0 ask.1
   | None ↦ record {
     status = answers_status (answers_of portfolio.contracts script.names (items_of script.lines));
-    text = output_of portfolio script.names (items_of script.lines);
-    rows = rows_calculated portfolio.contracts script.names (items_of script.lines);
+    text = eval_text portfolio script.names (items_of script.lines);
+    rows = work_of portfolio (items_of script.lines);
   }
 ]
 

@@ -15,8 +15,8 @@ use Rattle.act_print.specs.Text.{answer_text, answers_head_text, block_text, ite
 use Rattle.act_script.specs.Reading.{AddsCodes, Script}
 use Rattle.act_model.specs.Journal.{appends_entry, is_append, is_known}
 use Rattle.act_profile.specs.Answers.{answers_of}
-use Rattle.act_top.specs.Output.{Outcome, answers_status, items_of, output_of, too_much_asked}
-use Rattle.act_top.specs.Reached.{rows_calculated}
+use Rattle.act_top.specs.Output.{Outcome, answers_status, eval_text, items_of, too_much_asked}
+use Rattle.act_top.specs.Work.{work_of}
 
 -- what is true of a script that was read with such names and behind so many entries: codes alone were added to the names, what a step names is
 -- named, what it appends is an entry of a book, and a book holds all entries
@@ -67,6 +67,6 @@ opening_text script =
 abbrev pub evaluation_outcome : Evaluation → Outcome
 evaluation_outcome evaluation = record {
   status = answers_status (answers_of evaluation.portfolio.contracts evaluation.script.names (items_of evaluation.script.lines));
-  text = output_of evaluation.portfolio evaluation.script.names (items_of evaluation.script.lines);
-  rows = rows_calculated evaluation.portfolio.contracts evaluation.script.names (items_of evaluation.script.lines);
+  text = eval_text evaluation.portfolio evaluation.script.names (items_of evaluation.script.lines);
+  rows = work_of evaluation.portfolio (items_of evaluation.script.lines);
 }

@@ -5,14 +5,14 @@ ghost use Rattle.act_model.specs.Journal.{book_of};
 ghost use Rattle.act_print.specs.Printed.{printed_answer};
 ghost use Rattle.act_print.specs.Text.{answer_text};
 ghost use Rattle.act_profile.specs.Answers.{answers_of};
-ghost use Rattle.act_top.specs.Output.{ends_well, items_of, output_of};
-ghost use Rattle.act_top.specs.Reached.{rows_calculated};
+ghost use Rattle.act_top.specs.Output.{ends_well, eval_text, items_of, output_of};
+ghost use Rattle.act_top.specs.Work.{work_of};
 ghost use Rattle.act_top.specs.Written.{Writes, faults_after};
 
 use crate::driving::{answer, append};
 use crate::evaluation::Evaluation;
 use crate::journal::entry_count;
-use crate::transcript::{write_answer, write_opening};
+use crate::transcript::{write_answer, write_opening, write_work};
 use crate::writing::Stop;
 use act_board::Board;
 use act_io::Sink;
@@ -23,25 +23,48 @@ use std::sync::Arc;
 use std::sync::ledger::Ledger;
 
 impl Evaluation {
-    /// Writes the journal of the script and its answers, and answers whether each block ends in `end`.
+    /// Writes the journal of the script, its answers and the line of its work, and answers whether each block ends in `end`.
     pub(crate) fn write<K: Sink, L: Ledger>(
         &self,
         alloc: Global,
         out: &mut K,
         steps: &mut Steps<L>,
     ) -> Result<bool, Stop>
+        ensures text { Writes result (eval_text self.now.portfolio self.now.script.names (items_of self.now.script.lines))
+            (K.written out.old) (K.written out.new) }
+        ensures ended { IfOk result (λ ended. ended
+            ≡ list_all ends_well (answers_of self.now.portfolio.contracts self.now.script.names (items_of self.now.script.lines))) }
+        ensures ticked { IfOk result (λ _. steps.new ≡ steps.old + work_of self.now.portfolio (items_of self.now.script.lines)) }
+        ensures faults { K.faults out.new ≡ faults_after result (K.faults out.old) }
+    {
+        let mut line = Vec::new(alloc);
+        let mut work = 0;
+        let ended = self.write_output(alloc, out, &mut line, &mut work, steps)?;
+        write_work(out, &mut line, work)?;
+        Ok(ended)
+    }
+
+    /// Writes the journal of the script and its answers, counts the rows that are computed for them to `work`, and answers
+    /// whether each block ends in `end`. `line` is room for a line.
+    fn write_output<K: Sink, L: Ledger>(
+        &self,
+        alloc: Global,
+        out: &mut K,
+        line: &mut Vec<u8>,
+        work: &mut u64,
+        steps: &mut Steps<L>,
+    ) -> Result<bool, Stop>
         ensures text { Writes result (output_of self.now.portfolio self.now.script.names (items_of self.now.script.lines))
             (K.written out.old) (K.written out.new) }
         ensures ended { IfOk result (λ ended. ended
             ≡ list_all ends_well (answers_of self.now.portfolio.contracts self.now.script.names (items_of self.now.script.lines))) }
-        ensures ticked { IfOk result (λ _. steps.new
-            ≡ steps.old + rows_calculated self.now.portfolio.contracts self.now.script.names (items_of self.now.script.lines)) }
+        ensures ticked { IfOk result (λ _. steps.new ≡ steps.old + work_of self.now.portfolio (items_of self.now.script.lines)) }
+        ensures counted { IfOk result (λ _. work.new + steps.old ≡ work.old + steps.new) }
         ensures faults { K.faults out.new ≡ faults_after result (K.faults out.old) }
     {
         let mut board = self.board(alloc)?;
-        let mut line = Vec::new(alloc);
-        write_opening(out, &mut line, &self.script)?;
-        self.write_answers(alloc, out, &mut line, &mut board, steps)
+        write_opening(out, line, &self.script)?;
+        self.write_answers(alloc, out, line, &mut board, work, steps)
     }
 
     /// A board on which nothing has happened, for the one caller.
@@ -59,6 +82,7 @@ impl Evaluation {
         out: &mut K,
         line: &mut Vec<u8>,
         board: &mut Board,
+        work: &mut u64,
         steps: &mut Steps<L>,
     ) -> Result<bool, Stop>
         requires { board.old ≡ record { portfolio = self.now.portfolio; quotas = length (book_of (items_of self.now.script.lines)) ∷ []; marks = [] } }
@@ -66,8 +90,8 @@ impl Evaluation {
             (answers_of self.now.portfolio.contracts self.now.script.names (items_of self.now.script.lines))) (K.written out.old) (K.written out.new) }
         ensures ended { IfOk result (λ ended. ended
             ≡ list_all ends_well (answers_of self.now.portfolio.contracts self.now.script.names (items_of self.now.script.lines))) }
-        ensures ticked { IfOk result (λ _. steps.new
-            ≡ steps.old + rows_calculated self.now.portfolio.contracts self.now.script.names (items_of self.now.script.lines)) }
+        ensures ticked { IfOk result (λ _. steps.new ≡ steps.old + work_of self.now.portfolio (items_of self.now.script.lines)) }
+        ensures counted { IfOk result (λ _. work.new + steps.old ≡ work.old + steps.new) }
         ensures faults { K.faults out.new ≡ faults_after result (K.faults out.old) }
     {
         let mut ended = true;
@@ -75,7 +99,7 @@ impl Evaluation {
             match step.step {
                 Step::Append(entry) => append(board, entry)?,
                 Step::Ask(asked) => {
-                    let answer = answer(alloc, &self.portfolio, board, asked, steps)?;
+                    let answer = answer(alloc, &self.portfolio, board, asked, work, steps)?;
                     let written = write_answer(out, line, self.names(), &answer);
                     drop(answer);
                     let ends = written?;

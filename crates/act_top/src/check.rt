@@ -141,7 +141,7 @@ fn write_unused_name<K: Sink>(out: &mut K, line: &mut Vec<u8>, name: &[u8]) -> R
 }
 
 /// Writes a line of a word and others, each of these behind a space.
-fn write_words<K: Sink>(
+pub(crate) fn write_words<K: Sink>(
     out: &mut K,
     line: &mut Vec<u8>,
     word: &[u8],

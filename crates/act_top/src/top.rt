@@ -69,8 +69,10 @@ const USAGE: &[u8] = b"usage: eval P [S] | check P | desk W P S.. | big N W\n";
 /// Runs the command of the words over the files, and writes its text, or a line that says why it is refused.
 ///
 /// `eval P S` evaluates the contracts of the portfolio file P that the script file S asks for: it writes the journal of
-/// the one caller, and then the answer to each ask over the entries before it. `eval P` has the script of one line that
-/// asks for all contracts. `check P` writes the contracts of P, with the names that they don't use.
+/// the one caller, then the answer to each ask over the entries before it, and last how many rows were computed for them.
+/// A contract's evaluation goes on from what is kept of the one before, so that an entry costs only the rows dated from its
+/// day on, of the contracts that read it. `eval P` has the script of one line that asks for all contracts. `check P` writes
+/// the contracts of P, with the names that they don't use.
 pub fn eval_top<F: Files, K: Sink, L: Ledger>(
     alloc: Global,
     words: &[String],
@@ -98,7 +100,7 @@ pub fn eval_top<F: Files, K: Sink, L: Ledger>(
     ensures asked { AsksFor (command_of (map string_bytes words.now)) result
         (F.asked files.old) (F.asked files.new) (K.written out.old) (K.written out.new) }
 
-    // The counter ticks once for each row that is calculated for the text.
+    // The counter ticks once for each row that is computed for the text.
     ensures ticks { (result ≡ Done) ⊎ (result ≡ Unfinished) →
         IfSome (outcome_of (F.content files.old) (command_of (map string_bytes words.now))) (λ wanted. steps.new ≡ steps.old + wanted.rows) }
 

@@ -7,11 +7,12 @@ ghost use Rattle.act_model.specs.Run.{Stream};
 ghost use Rattle.act_print.specs.Printed.{printed_answer, printed_block};
 ghost use Rattle.act_print.specs.Text.{answer_head_text, answer_text, answers_head_text, block_head_text, block_text, item_text, journal_head_text, text_of};
 ghost use Rattle.act_text.specs.Lines.{close_text, row_text};
-ghost use Rattle.act_top.specs.Output.{all_end, ends_well, is_end, items_of};
+ghost use Rattle.act_top.specs.Output.{all_end, ends_well, is_end, items_of, work_line};
 ghost use Rattle.act_top.specs.Ready.{answers_text, opening_text, runs_text, shared_runs};
 ghost use Rattle.act_session.specs.Playing.{replies_of};
 ghost use Rattle.act_top.specs.Written.{Writes, faults_after};
 
+use crate::check::write_words;
 use crate::journal::{CALLER, ask_count};
 use crate::reading::Script;
 use crate::writing::{Stop, write_line};
@@ -19,6 +20,7 @@ use act_io::Sink;
 use act_model::{Answer, Close, Item, Line, Names, Row, Rows, Run};
 use act_print::{answer_head, answers_head, block_head, item_line, journal_head};
 use act_text::{close_line, row_line};
+use itoa::Buffer;
 use std::alloc::Global;
 use std::sync::Arc;
 
@@ -57,6 +59,17 @@ pub(crate) fn write_transcript<K: Sink>(
     write_items(out, &mut line, names, items)?;
     write_answers_head(out, &mut line, answer_count(answers))?;
     write_answer_lists(out, &mut line, names, answers)
+}
+
+/// Writes the line of how many rows were computed.
+#[tactic(auto, unfolding(crate::specs::Output::work_line))]
+pub(crate) fn write_work<K: Sink>(out: &mut K, line: &mut Vec<u8>, work: u64) -> Result<(), Stop>
+    ensures text { Writes result (work_line work) (K.written out.old) (K.written out.new) }
+    ensures faults { K.faults out.new ≡ faults_after result (K.faults out.old) }
+{
+    let mut digits = Buffer::new();
+    let work = digits.format(work);
+    write_words(out, line, b"work", &[work.as_bytes()])
 }
 
 /// How many answers there are.

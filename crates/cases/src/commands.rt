@@ -163,13 +163,15 @@ fn status_told(told: &mut Told, call: &str, status: Status, text: &[u8]) {
     }
 }
 
-/// Tells rows with commas between them.
+/// Tells rows with commas between them, without the line of work.
 pub fn rows_told(told: &mut Told, rows: &[u8], is_full: bool) {
     match str::from_utf8(rows) {
         Ok(rows) => {
             for line in rows.lines() {
-                told.next(", ");
-                row_told(told, line, is_full);
+                if !line.starts_with("work ") {
+                    told.next(", ");
+                    row_told(told, line, is_full);
+                }
             }
         }
         Err(_) => told.fail(Trouble::OtherSigns),

@@ -1,7 +1,8 @@
 use Rattle.std.proofs.Common.{◌≡◌, ◌+◌, ◌-◌, ◌*◌, ◌≤◌, ◌++◌, length, take, drop, ap, ◌∙◌, arith}
 use Rattle.std.specs.Arc.{arc_value}
 use Rattle.act_book.specs.Runs.{chunk}
-use Rattle.act_book.proofs.RunLists.{chunks_of, run_at, run_before, take_parts}
+use Rattle.act_model.proofs.Lists.{take_parts}
+use Rattle.act_book.proofs.RunLists.{chunks_of, run_at, run_before}
 use Rattle.act_book.proofs.book.next_run.Goals as goal
 
 pub loop-front-init : goal.loop-front-init

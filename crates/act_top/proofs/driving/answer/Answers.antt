@@ -1,12 +1,11 @@
-use Rattle.std.proofs.Common.{◌≡◌, ◌+◌, List, true, take, sym, ap, subst, ◌∙◌, arith}
+use Rattle.std.proofs.Common.{◌≡◌, ◌+◌, true, sym, ap, subst, ◌∙◌, arith}
 use Rattle.std.proofs.lemmas.Result.{IfOk-weaker}
 use Rattle.act_model.specs.Journal.{is_known}
 use Rattle.act_model.specs.declared.journal.Step.TheVariants as step
-use Rattle.act_model.specs.declared.observed.Obs.{Obs}
 use Rattle.act_portfolio.specs.Reading.{Accepted}
-use Rattle.act_board.specs.History.{History, entries_of, has_result, open_asks, version_of}
-use Rattle.act_top.specs.Driven.{Adds, IsQuiet, OnlyWorks, rows_made}
-use Rattle.act_top.proofs.Stepping.{adds-ask, all-there, answer-is, collect-open, oldest-is, opened-last, quiet-asked, quiet-collected, ready-is, the-ask, ticks-ask}
+use Rattle.act_board.specs.History.{History, open_asks}
+use Rattle.act_top.specs.Driven.{Adds, AreLatest, IsLater, IsQuiet, OnlyWorks, rows_since}
+use Rattle.act_top.proofs.Stepping.{adds-ask, all-there, answer-is, collect-open, latest-answered, oldest-is, opened-last, quiet-asked, quiet-collected, ready-is, the-ask, ticks-ask}
 use Rattle.act_top.proofs.driving.answer.Goals as goal
 
 pub evaluate_all-requires : goal.evaluate_all-requires
@@ -61,7 +60,7 @@ returns-clause-asked g c =
     let told = c.in_ok-evaluate_all.ensures in
     let works = subst (λ (h : History). OnlyWorks h last) c.in_ok-ask.ensures told.works in
     IfOk-weaker c.collect.result _ _
-    (λ x is. subst (Adds (record { caller = 1; step = step.Ask c.args.asked }) first) (sym is) (adds-ask p first last c.requires.quiet c.requires.closed c.args.asked works told.quiet)) c.collect.ensures.collected
+    (λ x is. subst (Adds c.args.asked first) (sym is) (adds-ask p first last c.requires.quiet c.requires.closed c.args.asked works told.quiet)) c.collect.ensures.collected
 
 pub returns-clause-answer : goal.returns-clause-answer
 returns-clause-answer g c =
@@ -75,6 +74,20 @@ returns-clause-answer g c =
     let oldest = oldest-is p last told.quiet ask opened c.order.ensures.ordered c.order.ensures.count c.order.ensures.exist told.none in
     IfOk-weaker c.collect.result _ _ (λ answer is. is ask oldest ∙ answer-is p first last c.requires.quiet c.requires.closed c.args.asked works told.quiet) c.collect.ensures.answer
 
+pub returns-clause-latest : goal.returns-clause-latest
+returns-clause-latest g c =
+    let p = c.args.portfolio.now in
+    let first = c.args.board.now in
+    let last = c.evaluate_all.new.board in
+    let told = c.in_ok-evaluate_all.ensures in
+    let works = subst (λ (h : History). OnlyWorks h last) c.in_ok-ask.ensures told.works in
+    let later = subst (λ (h : History). IsLater h last) c.in_ok-ask.ensures told.later in
+    let ask = the-ask p first c.requires.quiet c.requires.closed c.args.asked in
+    let opened = opened-last p first last c.requires.quiet c.requires.closed c.args.asked works told.quiet in
+    let all = all-there p last told.quiet ask opened c.order.ensures.ordered c.order.ensures.count c.order.ensures.exist told.none in
+    IfOk-weaker c.collect.result _ _
+    (λ x is. subst (AreLatest p) (sym is) (latest-answered p first last c.requires.quiet c.requires.closed c.args.asked works told.quiet later all c.requires.latest)) c.collect.ensures.collected
+
 pub returns-clause-ticked : goal.returns-clause-ticked
 returns-clause-ticked g c =
     let p = c.args.portfolio.now in
@@ -82,9 +95,11 @@ returns-clause-ticked g c =
     let last = c.evaluate_all.new.board in
     let told = c.in_ok-evaluate_all.ensures in
     let works = subst (λ (h : History). OnlyWorks h last) c.in_ok-ask.ensures told.works in
-    let ticked = subst (λ (h : History). (book : List Obs) → take (version_of h) book ≡ entries_of h → c.evaluate_all.new.steps + rows_made p.contracts book (has_result h) ≡ c.args.steps.now + rows_made p.contracts book (has_result last))
-    c.in_ok-ask.ensures told.ticked in
+    let later = subst (λ (h : History). IsLater h last) c.in_ok-ask.ensures told.later in
+    let ticked = subst (λ (h : History). c.evaluate_all.new.steps ≡ c.args.steps.now + rows_since h last) c.in_ok-ask.ensures told.ticked in
+    let ask = the-ask p first c.requires.quiet c.requires.closed c.args.asked in
+    let opened = opened-last p first last c.requires.quiet c.requires.closed c.args.asked works told.quiet in
+    let all = all-there p last told.quiet ask opened c.order.ensures.ordered c.order.ensures.count c.order.ensures.exist told.none in
     IfOk-weaker c.collect.result _ _
     (λ x is book begins.
-    ticks-ask p first last c.requires.quiet c.requires.closed c.args.asked works told.quiet c.args.steps.now c.evaluate_all.new.steps ticked book begins
-    ∙ ap (λ (h : History). c.args.steps.now + rows_made p.contracts book (has_result h)) (sym is)) c.collect.ensures.collected
+    ticks-ask p first last c.requires.quiet c.requires.closed c.args.asked works told.quiet c.args.steps.now c.evaluate_all.new.steps ticked later all c.requires.latest book begins) c.collect.ensures.collected

@@ -1,4 +1,4 @@
-use Rattle.std.proofs.Common.{◌≡◌, ℕ, true, false, List, [], ◌∷◌, ◌++◌, length, take, Some, refl, sym, ap, subst, ◌∙◌, arith, vec_capacity}
+use Rattle.std.proofs.Common.{◌≡◌, ℕ, true, false, List, [], ◌∷◌, ◌++◌, length, set, take, Option, Some, None, refl, sym, ap, subst, ◌∙◌, arith, slice_index_or, vec_capacity, ◌<◌, ◌≤◌}
 use Rattle.std.specs.Arc.{arc_value}
 use Rattle.std.specs.List.{slice_get}
 use Rattle.std.proofs.lemmas.List.{length-set}
@@ -6,17 +6,22 @@ use Rattle.std.proofs.lemmas.Option.{slice_get_within}
 use Rattle.act_model.specs.declared.observed.Obs.{Obs}
 use Rattle.act_portfolio.specs.Reading.{Accepted}
 use Rattle.act_profile.specs.Run.{run_of}
+use Rattle.act_model.specs.Run.{Stream}
+use Rattle.act_swap.specs.Children.{AreInDayOrder}
 use Rattle.act_refs.proofs.Turning.{written_back}
 use Rattle.act_board.specs.Calls.{IsOf}
-use Rattle.act_board.specs.History.{History, and_then, entries_of, is_claimed}
-use Rattle.act_board.specs.Kept.{IsPut, IsUnderWay, contract_at}
+use Rattle.act_board.specs.History.{History, and_then, entries_of, is_claimed, version_of}
+use Rattle.act_board.specs.Kept.{IsPut, IsResult, IsUnderWay, contract_at}
+use Rattle.act_board.specs.Latest.{is_later}
 use Rattle.act_board.specs.Work.{version}
+use Rattle.act_board.specs.declared.latest.Latest.{Latest}
 use Rattle.act_board.specs.declared.mark.Mark.{Mark}
 use Rattle.act_board.specs.declared.mark.Mark.TheVariants as mark
 use Rattle.act_board.specs.declared.pair.Pair.{Pair}
 use Rattle.act_board.specs.declared.pair.Progress.TheVariants.{Done}
 use Rattle.act_board.proofs.Claimed.{board-finished, claimed-told, owed-one, unclaimed-told}
 use Rattle.act_board.proofs.Told.{contract-is}
+use Rattle.act_board.proofs.LatestRuns.{latest-finished, latest-length}
 use Rattle.act_board.proofs.board.Board.finish.Goals as goal
 
 pub returns-then-not-is_claimed : goal.returns-then-not-is_claimed
@@ -29,7 +34,7 @@ returns-then-not-is_claimed c =
     let ranked : slice_get p.order r ≡ Some c.into_parts-contract.result.0 = ap (λ (q : Accepted). slice_get q.order r) (sym c.deref.ensures) ∙ c.rank-rank.ensures in
     let same : contract_at raw r ≡ c.args.done.contract = contract-is p raw r c.into_parts-contract.result.0 refl ranked ∙ c.into_parts-contract.ensures.contract in
     let none : ¬ (IsUnderWay b.pairs.items v r) = λ is. c.if-not-is_claimed.ensures.no refl (subst (λ (xs : List Pair). IsUnderWay xs v r) (sym c.deref-2.ensures.value) is) in
-    let free = unclaimed-told raw _ b.items.items b.book b.callers.items b.pairs.items b.front b.owing b.given_up c.self.invariant v r (slice_get_within p.order r c.into_parts-contract.result.0 ranked) none in
+    let free = unclaimed-told raw _ b.items.items b.book b.callers.items b.pairs.items b.front b.owing b.given_up c.self.invariant.0 v r (slice_get_within p.order r c.into_parts-contract.result.0 ranked) none in
     let here : is_claimed c.args.self.now c.args.done.contract (version c.args.done) ≡ false =
     subst (λ (h : History). is_claimed h c.args.done.contract (version c.args.done) ≡ false) c.self.view_is
     (subst (λ (w : ℕ). is_claimed raw c.args.done.contract w ≡ false) c.into_parts-contract.ensures.version (subst (λ (d : ℕ). is_claimed raw d v ≡ false) same free)) in
@@ -43,7 +48,7 @@ overflow_sub-self c =
     let run = c.into_parts-contract.result.2 in
     let put = subst (λ (xs : List Pair). IsPut xs v r (Done run) c.put_progress.new.pairs) c.deref_mut.ensures.value c.put_progress.ensures in
     let claimed = subst (λ (xs : List Pair). IsUnderWay xs v r) c.deref-2.ensures.value (c.if-not-is_claimed.ensures.yes refl) in
-    owed-one _ _ b.items.items b.book b.callers.items b.pairs.items b.front b.owing b.given_up c.self.invariant v r run c.put_progress.new.pairs put claimed
+    owed-one _ _ b.items.items b.book b.callers.items b.pairs.items b.front b.owing b.given_up c.self.invariant.0 v r run c.put_progress.new.pairs put claimed
 
 pub put_mark-requires : goal.put_mark-requires
 put_mark-requires c =
@@ -53,8 +58,8 @@ put_mark-requires c =
     let run = c.into_parts-contract.result.2 in
     let put = subst (λ (xs : List Pair). IsPut xs v r (Done run) c.put_progress.new.pairs) c.deref_mut.ensures.value c.put_progress.ensures in
     let claimed = subst (λ (xs : List Pair). IsUnderWay xs v r) c.deref-2.ensures.value (c.if-not-is_claimed.ensures.yes refl) in
-    let owes = owed-one _ _ b.items.items b.book b.callers.items b.pairs.items b.front b.owing b.given_up c.self.invariant v r run c.put_progress.new.pairs put claimed in
-    record { room = omega (arith, owes, c.self.invariant.room) }
+    let owes = owed-one _ _ b.items.items b.book b.callers.items b.pairs.items b.front b.owing b.given_up c.self.invariant.0 v r run c.put_progress.new.pairs put claimed in
+    record { room = omega (arith, owes, c.self.invariant.0.room) }
 
 pub invariant_of-self : goal.invariant_of-self
 invariant_of-self c =
@@ -79,9 +84,21 @@ invariant_of-self c =
     ∙ ap (λ (e : ℕ). run_of p.contracts (take v (entries_of raw)) e) (sym same))))) in
     let marked =
     c.put_mark.ensures.added ∙ (ap (λ (m : Mark). b.marks.items ++ m ∷ []) c.finish.ensures ∙ ap (λ (e : ℕ). b.marks.items ++ mark.Finish e v ∷ []) (sym same)) in
-    rw (written_back b.pairs.len c.put_progress.new.pairs b.pairs.items (ap length put.is ∙ length-set b.pairs.items put.place (record { version = v; rank = r; progress = Done run })) (sym c.deref_mut.ensures.len ∙ ap length c.deref_mut.ensures.value))
-    (board-finished raw _ b.items.items b.book b.callers.items b.pairs.items b.front b.owing b.given_up c.self.invariant v r run c.put_progress.new.pairs c.put_mark.new.marks.items (vec_capacity c.put_mark.new.marks) put claimed
-    (slice_get_within p.order r d ranked) (made, c.into_parts-contract.ensures.in_day_order) marked c.put_mark.ensures.kept)
+    let known : v ≤ version_of raw = omega (arith, (c.self.invariant.0.pairs.each claimed.0 claimed.1).version, claimed.2) in
+    let made-own : arc_value run ≡ run_of p.contracts (take v (entries_of raw)) d = made ∙ ap (run_of p.contracts (take v (entries_of raw))) same in
+    let latest = c.into_parts-contract.result.3 in
+    let again : arc_value latest ≡ arc_value run = c.into_parts-contract.ensures.latest ∙ sym c.into_parts-contract.ensures.run in
+    let result : IsResult raw d v (arc_value latest) = (again ∙ made-own, subst (λ (s : Stream). AreInDayOrder s.rows) (sym again) c.into_parts-contract.ensures.in_day_order) in
+    let there : d < length b.latest.items = omega (arith, c.into_parts-contract.ensures.within, ap (λ (q : Accepted). length q.contracts.terms) of.portfolio, c.self.invariant.1.count) in
+    let later = subst (λ (xs : List (Option Latest)). is_later (slice_index_or xs d None) v ≡ true → c.put_latest.new.latest ≡ xs) c.deref_mut-2.ensures.value c.put_latest.ensures.later in
+    let put_on = subst (λ (xs : List (Option Latest)). is_later (slice_index_or xs d None) v ≡ false → c.put_latest.new.latest ≡ set xs d (Some (record { version = v; run = latest }))) c.deref_mut-2.ensures.value c.put_latest.ensures.put in
+    let marked-own = c.put_mark.ensures.added ∙ ap (λ (m : Mark). b.marks.items ++ m ∷ []) c.finish.ensures in (
+      rw (written_back b.pairs.len c.put_progress.new.pairs b.pairs.items (ap length put.is ∙ length-set b.pairs.items put.place (record { version = v; rank = r; progress = Done run })) (sym c.deref_mut.ensures.len ∙ ap length c.deref_mut.ensures.value))
+          (board-finished raw _ b.items.items b.book b.callers.items b.pairs.items b.front b.owing b.given_up c.self.invariant.0 v r run c.put_progress.new.pairs c.put_mark.new.marks.items (vec_capacity c.put_mark.new.marks) put claimed
+          (slice_get_within p.order r d ranked) (made, c.into_parts-contract.ensures.in_day_order) marked c.put_mark.ensures.kept),
+      rw (written_back b.latest.len c.put_latest.new.latest b.latest.items (latest-length raw b.latest.items c.put_latest.new.latest d v latest c.self.invariant.1 there known result later put_on) (sym c.deref_mut-2.ensures.len ∙ ap length c.deref_mut-2.ensures.value))
+          (latest-finished raw b.latest.items c.put_latest.new.latest d v latest c.self.invariant.1 there known result later put_on c.put_mark.new.marks.items marked-own),
+    )
 
 pub returns : goal.returns
 returns c =
@@ -94,7 +111,7 @@ returns c =
     let ranked : slice_get p.order r ≡ Some d = ap (λ (q : Accepted). slice_get q.order r) (sym c.deref.ensures) ∙ c.rank-rank.ensures in
     let same : contract_at raw r ≡ c.args.done.contract = contract-is p raw r d refl ranked ∙ c.into_parts-contract.ensures.contract in
     let claimed = subst (λ (xs : List Pair). IsUnderWay xs v r) c.deref-2.ensures.value (c.if-not-is_claimed.ensures.yes refl) in
-    let so = claimed-told raw _ b.items.items b.book b.callers.items b.pairs.items b.front b.owing b.given_up c.self.invariant v r claimed in
+    let so = claimed-told raw _ b.items.items b.book b.callers.items b.pairs.items b.front b.owing b.given_up c.self.invariant.0 v r claimed in
     let here : is_claimed c.args.self.now c.args.done.contract (version c.args.done) ≡ true =
     subst (λ (h : History). is_claimed h c.args.done.contract (version c.args.done) ≡ true) c.self.view_is
     (subst (λ (w : ℕ). is_claimed raw c.args.done.contract w ≡ true) c.into_parts-contract.ensures.version (subst (λ (e : ℕ). is_claimed raw e v ≡ true) same so)) in

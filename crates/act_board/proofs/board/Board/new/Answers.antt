@@ -3,7 +3,9 @@ use Rattle.std.specs.Arc.{arc_value}
 use Rattle.std.specs.List.{All}
 use Rattle.act_portfolio.specs.Reading.{Accepted}
 use Rattle.act_refs.specs.Ordered.{order_of}
+use Rattle.act_board.specs.Latest.{NoneYet}
 use Rattle.act_board.proofs.Opened.{board-fresh}
+use Rattle.act_board.proofs.LatestRuns.{latest-fresh}
 use Rattle.act_board.proofs.board.Board.new.Goals as goal
 
 pub invariant_of-result : goal.invariant_of-result
@@ -17,5 +19,9 @@ invariant_of-result c =
     subst (λ (p : Accepted). All (λ contract. contract < length p.contracts.terms) p.order) of (subst (λ (xs : List ℕ). All (λ contract. contract < length c.deref.result.now.contracts.terms) xs) c.order.ensures.order c.order.ensures.numbered) in
     let marks : c.make_room.new.marks.items ≡ [] = c.make_room.ensures.marks ∙ c.new-marks.ensures.items in
     let room : length quotas + 1 ≤ vec_capacity c.make_room.new.marks = omega (arith, c.in_ok-make_room.ensures.room, ap length marks) in
-    rw (marks, c.in_ok-quotas.ensures.items, c.new.ensures.items, c.new-2.ensures, c.new-3.ensures.items)
-    (board-fresh portfolio quotas (vec_capacity c.make_room.new.marks) c.in_ok-callers.callers.items ordered count numbered c.in_ok-callers.ensures c.requires.few room c.requires.fits)
+    let terms : length c.terms.result.now ≡ length portfolio.contracts.terms = ap length c.terms.ensures.terms ∙ ap (λ (p : Accepted). length p.contracts.terms) c.deref-2.ensures in
+    let none = subst (λ (n : ℕ). NoneYet n c.in_ok-latest.latest.items) terms c.in_ok-latest.ensures in (
+      rw (marks, c.in_ok-quotas.ensures.items, c.new.ensures.items, c.new-2.ensures, c.new-3.ensures.items)
+          (board-fresh portfolio quotas (vec_capacity c.make_room.new.marks) c.in_ok-callers.callers.items ordered count numbered c.in_ok-callers.ensures c.requires.few room c.requires.fits),
+      rw (marks, c.in_ok-quotas.ensures.items) (latest-fresh portfolio quotas c.in_ok-latest.latest.items none),
+    )

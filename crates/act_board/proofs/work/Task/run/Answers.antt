@@ -1,48 +1,32 @@
-use Rattle.std.proofs.Common.{◌≡◌, ◌+◌, ◌<◌, ℕ, List, [], Ok, Err, IfOk, Result, arith, length, map, refl, sym, ap, subst, ◌∙◌, slice_get, slice_index_or, Some}
+use Rattle.std.proofs.Common.{◌≡◌, ◌+◌, ℕ, Option, None, refl, length, sym, ap, subst, ◌∙◌}
 use Rattle.std.specs.Arc.{arc_value}
 use Rattle.std.specs.declared.alloc.Global.{Global}
 use Rattle.std.specs.declared.sync.Arc.{Arc}
-use Rattle.std.proofs.lemmas.Option.{slice_get-get_or, slice_get_read}
-use Rattle.std.proofs.lemmas.Result.{IfOk-weaker}
 use Rattle.act_model.specs.Run.{Stream}
-use Rattle.act_model.specs.declared.terms.Terms.{Terms}
-use Rattle.act_num.specs.declared.NoMemory.{NoMemory}
-use Rattle.act_portfolio.specs.Reading.{Accepted}
-use Rattle.act_profile.specs.Run.{run_over}
-use Rattle.act_portfolio.proofs.Unrolling.{over-children}
-use Rattle.act_swap.specs.Children.{RunsAreInDayOrder}
+use Rattle.act_profile.specs.Kept.{KeptRows, kept_of}
+use Rattle.act_run.specs.Resuming.{kept_by}
+use Rattle.act_board.specs.Latest.{kept_under}
+use Rattle.act_board.specs.Tasks.{MayGoOn}
 use Rattle.act_board.specs.Work.{Work, outcome}
+use Rattle.act_board.proofs.Worked.{goes-from, whole-run}
 use Rattle.act_board.proofs.work.Task.run.Goals as goal
 
-pub evaluate-requires-clause-children : goal.evaluate-requires-clause-children
-evaluate-requires-clause-children g c =
-    subst (λ (runs : List (Arc Stream Global)). RunsAreInDayOrder (map arc_value runs)) (sym c.deref.ensures.value) c.self.invariant.children.1
+pub returns-in_ok-try_clone-in-Some-clause-run : goal.returns-in_ok-try_clone-in-Some-clause-run
+returns-in_ok-try_clone-in-Some-clause-run g c =
+    let cached = c.self.inside.cached in
+    let run = outcome c.args.self.now in
+    let goes = goes-from run cached.run cached.cut c.in-Some.kept c.in-Some.is (subst (λ (s : Stream). MayGoOn s cached.run cached.cut) (ap outcome c.self.view_is) c.self.invariant.kept) in
+    let whole = subst (λ (s : Stream). kept_of s cached.cut ≡ kept_by s None) c.deref.ensures (c.if-is_kept_whole.ensures.whole refl) in
+    c.in_ok-try_clone-in-Some.ensures ∙ whole-run run (arc_value c.in-Some.kept) cached.cut goes whole
 
-run-is : (g : _) (c : goal.After-evaluate g) → run_over c.index-terms-self.result c.plan-plan.result.now c.self.inside.seen (map arc_value c.deref.result.now) ≡ outcome c.args.self.now
-run-is g c =
-    let inside = c.self.inside in
-    let q = inside.of.value in
-    let is = c.self.invariant in
-    let same : c.args.portfolio.now ≡ q = c.requires.portfolio ∙ sym (ap (λ (w : Work). w.portfolio) c.self.view_is) in
-    let terms-are : c.terms.result.now ≡ q.contracts.terms = c.terms.ensures.terms ∙ ap (λ (p : Accepted). p.contracts.terms) same in
-    let within : inside.contract < length c.terms.result.now = rw terms-are is.contract in
-    let of : slice_get q.contracts.terms inside.contract ≡ Some c.index-terms-self.result =
-    ap (λ (ts : List Terms). slice_get ts inside.contract) (sym terms-are) ∙ slice_get_read c.terms.result.now _ inside.contract c.index-terms-self.result refl within c.index-terms-self.is in
-    let planned : slice_get q.contracts.plans inside.contract ≡ Some c.plan-plan.result.now =
-    ap (λ (p : Accepted). slice_get p.contracts.plans inside.contract) (sym same) ∙ c.plan-plan.ensures.plan in
-    let listed : inside.contract < length q.contracts.children = omega (arith, is.count, is.contract) in
-    let law = over-children q.contracts inside.seen q.order inside.contract c.index-terms-self.result c.plan-plan.result.now (slice_index_or q.contracts.children inside.contract []) is.ordered listed of planned
-    (slice_get-get_or q.contracts.children inside.contract [] listed) in
-    ap (λ (runs : List (Arc Stream Global)). run_over c.index-terms-self.result c.plan-plan.result.now inside.seen (map arc_value runs)) c.deref.ensures.value
-    ∙ (ap (run_over c.index-terms-self.result c.plan-plan.result.now inside.seen) is.children.0
-    ∙ (sym law ∙ ap outcome c.self.view_is))
-
-counted : (r : Result Stream NoMemory) (run : Stream) (n m : ℕ) → IfOk r (λ s. s ≡ run) → IfOk r (λ s. n ≡ m + length s.rows) → IfOk r (λ s. n ≡ m + length run.rows)
-counted (Ok s) run n m is ticks = ticks ∙ ap (λ (r : Stream). m + length r.rows) is
-counted (Err e) run n m is ticks = tt
-
-pub returns-clause-run : goal.returns-clause-run
-returns-clause-run g c = IfOk-weaker c.evaluate.result _ _ (λ run is. is ∙ run-is g c) c.evaluate.ensures.run
-
-pub returns-clause-ticked : goal.returns-clause-ticked
-returns-clause-ticked g c = counted c.evaluate.result (outcome c.args.self.now) c.evaluate.new.steps c.args.steps.now (returns-clause-run g c) c.evaluate.ensures.ticked
+pub returns-in_ok-try_clone-in-Some-clause-ticked : goal.returns-in_ok-try_clone-in-Some-clause-ticked
+returns-in_ok-try_clone-in-Some-clause-ticked g c =
+    let cached = c.self.inside.cached in
+    let run = outcome c.args.self.now in
+    let goes = goes-from run cached.run cached.cut c.in-Some.kept c.in-Some.is (subst (λ (s : Stream). MayGoOn s cached.run cached.cut) (ap outcome c.self.view_is) c.self.invariant.kept) in
+    let whole = subst (λ (s : Stream). kept_of s cached.cut ≡ kept_by s None) c.deref.ensures (c.if-is_kept_whole.ensures.whole refl) in
+    let rows =
+    sym (ap (λ (w : Work). length w.kept.rows) c.self.view_is)
+    ∙ (ap (λ (r : Option (Arc Stream Global)). length (kept_under r cached.cut).rows) c.in-Some.is
+    ∙ (ap (λ (k : KeptRows). length k.rows) whole ∙ ap (λ (s : Stream). length s.rows) (whole-run run (arc_value c.in-Some.kept) cached.cut goes whole))) in
+    ap (λ (n : ℕ). c.args.steps.now + n) rows

@@ -1,6 +1,6 @@
 use Rattle.std.proofs.Common.{◌≡◌, ◌-◌, ◌*◌, ◌++◌, take, drop, ap, ◌∙◌, arith}
 use Rattle.act_book.specs.Runs.{chunk}
-use Rattle.act_book.proofs.RunLists.{take_parts}
+use Rattle.act_model.proofs.Lists.{take_parts}
 use Rattle.act_book.proofs.snapshot.Snapshot.first.Goals as goal
 
 pub returns : goal.returns

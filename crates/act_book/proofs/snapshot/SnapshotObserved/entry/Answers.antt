@@ -4,7 +4,8 @@ use Rattle.std.specs.Arc.{arc_value}
 use Rattle.act_book.specs.Entries.{AreEntries}
 use Rattle.act_book.specs.Order.{event_of}
 use Rattle.act_book.specs.Runs.{entries_of}
-use Rattle.act_book.proofs.RunLists.{entries_rest, entry_is, get_back, get_front}
+use Rattle.act_model.proofs.Lists.{get_back, get_front}
+use Rattle.act_book.proofs.RunLists.{entries_rest, entry_is}
 use Rattle.act_book.proofs.snapshot.SnapshotObserved.entry.Goals as goal
 
 pub returns-then-left-entries-clause-place : goal.returns-then-left-entries-clause-place

@@ -1,17 +1,16 @@
-use Rattle.std.proofs.Common.{ap}
-use Rattle.act_top.specs.Ready.{Evaluation}
-use Rattle.act_top.proofs.Answering.{text-parts}
-use Rattle.act_top.proofs.Texts.{writes-behind, writes-first}
+use Rattle.std.proofs.Common.{◌≡◌, arith}
+use Rattle.act_top.specs.Output.{items_of}
+use Rattle.act_top.specs.Work.{work_of}
+use Rattle.act_top.proofs.Texts.{part-behind, writes-first, writes-part}
 use Rattle.act_top.proofs.evaluation.Evaluation.write.Goals as goal
 
-pub returns-in_err-write_opening-clause-text : goal.returns-in_err-write_opening-clause-text
-returns-in_err-write_opening-clause-text g c =
-    let e = c.args.self.now in
-    rw (text-parts e.portfolio e.script) (writes-first c.from_residual-in_err-write_opening.result _ _ _ _ _ c.from_residual-in_err-write_opening.ensures.1
-    (rw (ap (λ (v : Evaluation). v.script) c.self.view_is) at c.in_err-write_opening.ensures.text))
+pub returns-in_err-ended-clause-text : goal.returns-in_err-ended-clause-text
+returns-in_err-ended-clause-text g c =
+    writes-first c.from_residual.result _ _ _ _ _ c.from_residual.ensures.1 c.in_err-ended.ensures.text
 
-pub returns-clause-text : goal.returns-clause-text
-returns-clause-text g c =
+pub returns-in_err-write_work-clause-text : goal.returns-in_err-write_work-clause-text
+returns-in_err-write_work-clause-text g c =
     let e = c.args.self.now in
-    rw (text-parts e.portfolio e.script) (writes-behind c.write_answers.result _ _ _ _ _
-    (rw (ap (λ (v : Evaluation). v.script) c.self.view_is) at c.in_ok-write_opening.ensures.text) c.write_answers.ensures.text)
+    let counted : c.write_output.new.work ≡ work_of e.portfolio (items_of e.script.lines) = omega (arith, c.in_ok-ended.ensures.counted, c.in_ok-ended.ensures.ticked) in
+    writes-part c.from_residual-in_err-write_work.result _ _ _ _ c.from_residual-in_err-write_work.ensures.1
+    (part-behind _ _ _ _ _ _ c.in_ok-ended.ensures.text (rw counted at c.in_err-write_work.ensures.text))

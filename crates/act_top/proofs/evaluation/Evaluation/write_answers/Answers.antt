@@ -1,7 +1,7 @@
 use Rattle.std.proofs.Common.{None, ◌≡◌, ◌<◌, ◌≤◌, ◌+◌, ◌∷◌, [], ℕ, List, true, drop, take, refl, get_or, length, sym, ap, subst, ◌∙◌, arith, rules}
 use Rattle.std.specs.List.{All}
 use Rattle.std.specs.Prelude.{◌&&◌}
-use Rattle.act_board.specs.History.{History, and_then, asks_by, entries_of, has_result, version_of}
+use Rattle.act_board.specs.History.{History, and_then, asks_by, entries_of, version_of}
 use Rattle.act_board.specs.declared.mark.Mark.TheVariants as mark
 use Rattle.act_model.specs.Answer.{Reply}
 use Rattle.act_model.specs.Run.{Stream}
@@ -13,12 +13,14 @@ use Rattle.act_model.specs.Journal.{book_of, is_known}
 use Rattle.act_model.specs.declared.journal.Line.{Line}
 use Rattle.act_model.specs.declared.journal.Step.{Step}
 use Rattle.act_model.specs.declared.journal.Step.TheVariants as step
-use Rattle.act_top.specs.Driven.{IsDriven, IsQuiet, rows_made}
+use Rattle.act_top.specs.Driven.{AreLatest, IsDriven, IsQuiet}
 use Rattle.act_top.specs.Output.{items_of, too_much_asked}
 use Rattle.act_top.specs.Ready.{Evaluation}
+use Rattle.act_top.specs.Work.{ask_work, asks_work}
 use Rattle.act_top.proofs.Answering.{Answering, answering-all, answering-none, answers-are}
-use Rattle.act_top.proofs.Stepping.{answered-part, answering-appended, answering-asked, append-results, book-begins, driven-append, driven-ask, driven-first, driven-line, has-quota, known-same, made-none, made-same-rows, reply-named, rows-all, stopped-part}
+use Rattle.act_top.proofs.Stepping.{answered-part, answering-appended, answering-asked, append-asks, book-begins, driven-append, driven-ask, driven-first, driven-line, has-quota, known-same, reply-named, stopped-part, work-all}
 use Rattle.act_top.proofs.Texts.{drop-next, drop-past, writes-part}
+use Rattle.act_top.proofs.Working.{work-push}
 use Rattle.act_top.proofs.evaluation.Evaluation.write_answers.Goals as goal
 use Rattle.act_top.proofs.evaluation.Evaluation.write_answers.Goals.{in-Append+in_ok-append-in-Append, in-Ask+in_ok-answer-in-Ask+in_ok-ends-in-Ask}
 
@@ -29,7 +31,8 @@ loop-step-init g c =
     rw c.requires (record {
       driven = driven-first e.portfolio (items_of e.script.lines);
       answering = answering-all e.portfolio e.script.names (book_of (items_of e.script.lines)) e.script.lines _ light refl;
-      ticks = omega (arith, made-none e.portfolio.contracts (book_of (items_of e.script.lines)));
+      ticks = omega arith;
+      counted = omega arith;
       faults = refl;
     })
 
@@ -68,9 +71,10 @@ loop-step-preserved g c =
               arith,
               w.steps-is,
               c.loop-step.invariant.ticks,
-              made-same-rows e.portfolio.contracts (book_of all) (has_result c.loop-step.board) (has_result after) (append-results e.portfolio c.loop-step.board driven.quiet driven.closed entry),
-              ap (λ (h : History). rows_made e.portfolio.contracts (book_of all) (has_result h)) is,
+              ap (asks_work e.portfolio (book_of all) []) (append-asks e.portfolio c.loop-step.board driven.quiet driven.closed entry),
+              ap (λ (h : History). asks_work e.portfolio (book_of all) [] (asks_by h 1)) is,
             );
+            counted = omega (arith, w.steps-is, w.work-is, c.loop-step.invariant.counted);
             faults = rw w.out-is c.loop-step.invariant.faults;
           }
       | in-Ask+in_ok-answer-in-Ask+in_ok-ends-in-Ask w ↦
@@ -82,14 +86,15 @@ loop-step-preserved g c =
           let quiet = subst (λ (p : Accepted). IsQuiet p after) of told.quiet in
           let ask : Asking = record { caller = 1; number = 1 + length (asks_by c.loop-step.board 1); version = version_of c.loop-step.board; asked = asked } in
           let reply-is = subst (λ (p : Accepted). w.in_ok-answer-in-Ask.answer ≡ answer_to p.contracts p.names (entries_of c.loop-step.board) ask) of told.answer in
+          let latest = subst (λ (p : Accepted). AreLatest p after) of told.latest in
           let ticked = subst
-          (λ (p : Accepted). (book : List Obs) → take (version_of c.loop-step.board) book ≡ entries_of c.loop-step.board → w.answer.new.steps + rows_made p.contracts book (has_result c.loop-step.board) ≡ c.loop-step.steps + rows_made p.contracts book (has_result after))
+          (λ (p : Accepted). (book : List Obs) → take (version_of c.loop-step.board) book ≡ entries_of c.loop-step.board → w.answer.new.steps ≡ c.loop-step.steps + ask_work p book (asks_by c.loop-step.board 1) ask)
           of told.ticked in
           let same : e.script.names.contracts ≡ e.portfolio.names.contracts = ap (λ (v : Evaluation). v.script.names.contracts) (sym c.self.view_is) ∙ (c.self.invariant.lines.contracts ∙ ap (λ (v : Evaluation). v.portfolio.names.contracts) c.self.view_is) in
           let written = answering-asked e.portfolio e.script.names e.script.lines c.loop-step.board c.step-item.result left c.loop-step.ended (g.K.Sink.written c.args.out.now) (g.K.Sink.written c.loop-step.out) now asked driven same w.in-Ask.is after w.in_ok-answer-in-Ask.answer
           w.in_ok-ends-in-Ask.ends _ reply-is told.asked (rw w.names.ensures.names at w.in_ok-ends-in-Ask.ensures.text) w.in_ok-ends-in-Ask.ensures.ended in
           record {
-            driven = subst (IsDriven e.portfolio all (items_of left)) (sym w.board-is) (driven-ask e.portfolio all (items_of left) c.loop-step.board after asked driven quiet told.closed told.asked);
+            driven = subst (IsDriven e.portfolio all (items_of left)) (sym w.board-is) (driven-ask e.portfolio all (items_of left) c.loop-step.board after asked driven quiet told.closed told.asked latest);
             answering = rw (w.out-is, w.ended-is)
                 (subst (λ (h : History). Answering e.portfolio e.script.names (book_of all) e.script.lines left (1 + length (asks_by h 1)) (version_of h) (c.loop-step.ended && w.in_ok-ends-in-Ask.ends) (g.K.Sink.written c.args.out.now) (g.K.Sink.written w.write_answer-written.new.out)) (sym w.board-is) written);
             ticks = omega (
@@ -97,8 +102,11 @@ loop-step-preserved g c =
               w.steps-is,
               c.loop-step.invariant.ticks,
               ticked (book_of all) (book-begins e.portfolio all (items_of left) c.loop-step.board (record { caller = 1; step = step.Ask asked } ∷ items_of left) driven.items),
-              ap (λ (h : History). rows_made e.portfolio.contracts (book_of all) (has_result h)) w.board-is,
+              work-push e.portfolio (book_of all) [] (asks_by c.loop-step.board 1) ask,
+              ap (asks_work e.portfolio (book_of all) []) told.asked.asks,
+              ap (λ (h : History). asks_work e.portfolio (book_of all) [] (asks_by h 1)) w.board-is,
             );
+            counted = omega (arith, w.steps-is, w.work-is, c.loop-step.invariant.counted, told.counted);
             faults = rw w.out-is (w.in_ok-ends-in-Ask.ensures.faults ∙ c.loop-step.invariant.faults);
           }
     ]
@@ -179,5 +187,4 @@ returns-clause-ticked g c =
     let lines_are : c.deref-step-items.result.now ≡ e.script.lines = search rules in
     let past : length e.script.lines ≤ c.loop-step.step-index = omega (arith, c.loop-step-test.false, ap length lines_are) in
     let driven = subst (λ (ls : List Line). IsDriven e.portfolio (items_of e.script.lines) (items_of ls) c.loop-step.board) (drop-past e.script.lines c.loop-step.step-index past) c.loop-step.invariant.driven in
-    let same : e.script.names.contracts ≡ e.portfolio.names.contracts = ap (λ (v : Evaluation). v.script.names.contracts) (sym c.self.view_is) ∙ (c.self.invariant.lines.contracts ∙ ap (λ (v : Evaluation). v.portfolio.names.contracts) c.self.view_is) in
-    omega (arith, c.loop-step.invariant.ticks, rows-all e.portfolio e.script.names e.script.lines c.loop-step.board same driven)
+    omega (arith, c.loop-step.invariant.ticks, work-all e.portfolio e.script.lines c.loop-step.board driven)

@@ -1,8 +1,9 @@
-use Rattle.std.proofs.Common.{◌≡◌, ◌+◌, drop, length}
-use Rattle.act_board.specs.History.{asks_by, has_result, version_of}
+use Rattle.std.proofs.Common.{◌≡◌, ◌+◌, [], drop, length}
+use Rattle.act_board.specs.History.{asks_by, version_of}
 use Rattle.act_model.specs.Journal.{book_of}
-use Rattle.act_top.specs.Driven.{IsDriven, rows_made}
+use Rattle.act_top.specs.Driven.{IsDriven}
 use Rattle.act_top.specs.Output.{items_of}
+use Rattle.act_top.specs.Work.{asks_work}
 use Rattle.act_top.proofs.Answering.{Answering}
 use Rattle.act_top.proofs.evaluation.Evaluation.write_answers.Given as goal
 
@@ -11,6 +12,7 @@ abbrev pub invariant-loop-step : goal.invariant-loop-step
 invariant-loop-step g l = record {
   driven : IsDriven l.self.portfolio (items_of l.self.script.lines) (items_of (drop l.step-index l.self.script.lines)) l.board;
   answering : Answering l.self.portfolio l.self.script.names (book_of (items_of l.self.script.lines)) l.self.script.lines (drop l.step-index l.self.script.lines) (1 + length (asks_by l.board 1)) (version_of l.board) l.ended (g.K.Sink.written l.fn.out) (g.K.Sink.written l.out);
-  ticks : l.steps ≡ l.fn.steps + rows_made l.self.portfolio.contracts (book_of (items_of l.self.script.lines)) (has_result l.board);
+  ticks : l.steps ≡ l.fn.steps + asks_work l.self.portfolio (book_of (items_of l.self.script.lines)) [] (asks_by l.board 1);
+  counted : l.work + l.fn.steps ≡ l.fn.work + l.steps;
   faults : g.K.Sink.faults l.out ≡ g.K.Sink.faults l.fn.out;
 }

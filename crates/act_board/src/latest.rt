@@ -1,0 +1,161 @@
+//! The latest result of each contract, and what its evaluation at another version goes on from.
+ghost use Rattle.std.specs.Prelude.{◌≡◌, ◌≤◌, ◌<◌, false, length, max, min, slice_index_or, slice_set, Some, None, take, true, ◌≤ℤ◌, IfOk, IfSome};
+ghost use Rattle.std.specs.Arc.{arc_value};
+ghost use Rattle.std.specs.List.{slice_get};
+ghost use Rattle.act_causality.specs.Causality.{IsLinked, IsWithinDepth};
+ghost use Rattle.act_cut.specs.Cut.{AreAscending};
+ghost use Rattle.act_date.specs.Civil.{last_day};
+ghost use Rattle.act_profile.specs.Reads.{cut_by};
+ghost use Rattle.act_profile.specs.Run.{deepest};
+ghost use Rattle.act_board.specs.Latest.{IsCached, NoneYet, is_later};
+ghost use Rattle.act_board.specs.declared.latest.Latest.{Latest};
+
+use act_book::{Book, Snapshot as Entries};
+use act_cut::cut;
+use act_date::Day;
+use act_model::{Reads, Run};
+use act_num::NoMemory;
+use act_portfolio::Portfolio;
+use std::alloc::Global;
+use std::sync::Arc;
+
+/// The latest result of a contract.
+#[derive(Drop)]
+pub(crate) struct Latest {
+    /// Over how many entries of the book it was evaluated.
+    pub version: u64,
+    /// Its run over them.
+    pub run: Arc<Run, Global>,
+}
+
+/// What an evaluation goes on from: the contract's latest result, where it has one, of which the rows before a cut are kept, and
+/// the whole run where there is no cut or it stops before it.
+#[derive(Drop)]
+pub(crate) struct Cached {
+    /// The run.
+    pub run: Option<Arc<Run, Global>>,
+    /// The cut.
+    pub cut: Option<Day>,
+}
+
+/// A place for each contract, without results.
+pub(crate) fn none_yet(alloc: Global, contracts: usize) -> Result<Vec<Option<Latest>>, NoMemory>
+    ensures { IfOk result (λ latest. NoneYet contracts latest.items) }
+{
+    let mut latest = Vec::with_capacity(alloc, contracts)?;
+    while latest.len() < contracts {
+        latest.push(None)?;
+    }
+    Ok(latest)
+}
+
+/// Whether a latest result is of a later version.
+fn is_later(latest: &Option<Latest>, version: u64) -> bool
+    ensures { result ≡ is_later latest.now version }
+{
+    match latest {
+        Some(latest) => version < latest.version,
+        None => false,
+    }
+}
+
+/// Takes a result as a contract's latest, unless that is of a later version.
+pub(crate) fn put_latest(
+    latest: &mut [Option<Latest>],
+    contract: u32,
+    version: u64,
+    run: Arc<Run, Global>,
+)
+    requires within { contract < length latest.old }
+    ensures later { is_later (slice_index_or latest.old contract None) version ≡ true → latest.new ≡ latest.old }
+    ensures put { is_later (slice_index_or latest.old contract None) version ≡ false
+        → latest.new ≡ slice_set latest.old contract (Some (record { version = version; run = run })) }
+{
+    let place = contract as usize;
+    if is_later(&latest[place], version) {
+        drop(run);
+        return;
+    }
+    latest[place] = Some(Latest { version, run });
+}
+
+/// What the evaluation of a contract over the first entries of a book goes on from.
+pub(crate) fn cached_for(
+    portfolio: &Portfolio,
+    book: &Book,
+    latest: &[Option<Latest>],
+    contract: u32,
+    seen: &Entries,
+    version: u64,
+) -> Result<Cached, NoMemory>
+    requires contract { contract < length portfolio.now.contracts.terms }
+    requires count { length latest.now ≡ length portfolio.now.contracts.terms }
+    requires version { version ≤ length book.now }
+    requires seen { seen.now ≡ take version book.now }
+    requires latest { (one : Latest) → slice_get latest.now contract ≡ Some (Some one) → one.version ≤ length book.now }
+    ensures cached { IfOk result (λ cached. IsCached portfolio.now.contracts book.now contract version (slice_index_or latest.now contract None) cached) }
+    ensures linked { IsLinked portfolio.now.contracts }
+    ensures within_depth { IsWithinDepth deepest portfolio.now.contracts contract }
+{
+    // A portfolio tells how its contracts are linked only where it is asked for their terms and order.
+    let _ = portfolio.terms();
+    let _ = portfolio.order();
+    match &latest[contract as usize] {
+        Some(latest) => {
+            let cut = cut_between(
+                portfolio.reads(contract),
+                book,
+                seen,
+                latest.version,
+                version,
+            )?;
+            let run = Arc::try_clone(&latest.run)?;
+            Ok(Cached {
+                run: Some(run),
+                cut,
+            })
+        }
+        None => Ok(Cached {
+            run: None,
+            cut: None,
+        }),
+    }
+}
+
+/// The cut from the smaller to the greater of two versions of a book, of which the entries of the second are seen.
+fn cut_between(
+    reads: &Reads,
+    book: &Book,
+    seen: &Entries,
+    other: u64,
+    version: u64,
+) -> Result<Option<Day>, NoMemory>
+    requires ascending { AreAscending reads.now }
+    requires other { other ≤ length book.now }
+    requires version { version ≤ length book.now }
+    requires seen { seen.now ≡ take version book.now }
+    ensures cut { IfOk result (λ cut. cut ≡ cut_by reads.now.codes reads.now.contracts book.now (min other version) (max other version)) }
+    ensures in_range { IfOk result (λ cut. IfSome cut (λ day. day ≤ℤ last_day)) }
+{
+    if other <= version {
+        Ok(in_range(cut(reads, seen, other, version)))
+    } else {
+        let newer = book.snapshot(other)?;
+        Ok(in_range(cut(reads, &newer, version, other)))
+    }
+}
+
+/// The same cut: a day that can be.
+fn in_range(cut: Option<Day>) -> Option<Day>
+    ensures same { result ≡ cut }
+    ensures in_range { IfSome result (λ day. day ≤ℤ last_day) }
+{
+    // A day tells that it is in range only where it is asked for its number.
+    match cut {
+        Some(day) => {
+            let _ = day.number();
+            Some(day)
+        }
+        None => None,
+    }
+}
