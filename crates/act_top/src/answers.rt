@@ -11,7 +11,8 @@ ghost use Rattle.act_top.specs.Written.{Writes, faults_after};
 
 use crate::driving::{answer, append};
 use crate::evaluation::Evaluation;
-use crate::journal::entry_count;
+use crate::journal::{ask_count, entry_count};
+use crate::rows::no_lines;
 use crate::transcript::{write_answer, write_opening, write_work};
 use crate::writing::Stop;
 use act_board::Board;
@@ -94,13 +95,16 @@ impl Evaluation {
         ensures counted { IfOk result (λ _. work.new + steps.old ≡ work.old + steps.new) }
         ensures faults { K.faults out.new ≡ faults_after result (K.faults out.old) }
     {
+        let contracts = self.portfolio.terms().len();
+        let answers = ask_count(&self.script.lines);
+        let mut kept = no_lines(alloc, self.names(), contracts, answers)?;
         let mut ended = true;
         for step in &self.script.lines {
             match step.step {
                 Step::Append(entry) => append(board, entry)?,
                 Step::Ask(asked) => {
                     let answer = answer(alloc, &self.portfolio, board, asked, work, steps)?;
-                    let written = write_answer(out, line, self.names(), &answer);
+                    let written = write_answer(out, line, self.names(), &mut kept, &answer);
                     drop(answer);
                     let ends = written?;
                     ended &= ends;

@@ -156,6 +156,7 @@ impl DeskJob {
             ≡ list_all ends_well (answers_of self.now.portfolio.contracts self.now.scripts.names items.now)) }
         ensures faults { K.faults out.new ≡ faults_after result (K.faults out.old) }
     {
-        write_transcript(alloc, out, self.names(), items, answers)
+        let contracts = self.portfolio.terms().len();
+        write_transcript(alloc, out, self.names(), contracts, items, answers)
     }
 }

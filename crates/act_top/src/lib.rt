@@ -16,6 +16,7 @@ mod job;
 mod journal;
 mod line;
 mod reading;
+mod rows;
 mod scripts;
 mod top;
 mod transcript;

@@ -1,12 +1,14 @@
 //! The text of a journal and its answers, written line by line.
 ghost use Rattle.std.specs.Prelude.{◌≡◌, ◌≤◌, ◌<◌, ◌^◌, ℕ, true, ◌++◌, length, map, Err, IfOk};
+ghost use Rattle.std.specs.Arc.{arc_value};
 ghost use Rattle.std.specs.List.{All, flat_map, list_all};
 ghost use Rattle.act_model.specs.Answer.{Reply};
 ghost use Rattle.act_model.specs.Journal.{is_known};
 ghost use Rattle.act_model.specs.Run.{Stream};
 ghost use Rattle.act_print.specs.Printed.{printed_answer, printed_block};
 ghost use Rattle.act_print.specs.Text.{answer_head_text, answer_text, answers_head_text, block_head_text, block_text, item_text, journal_head_text, text_of};
-ghost use Rattle.act_text.specs.Lines.{close_text, row_text};
+ghost use Rattle.act_text.specs.Kept.{AreWrittenWith};
+ghost use Rattle.act_text.specs.Lines.{close_text};
 ghost use Rattle.act_top.specs.Output.{all_end, ends_well, is_end, items_of, work_line};
 ghost use Rattle.act_top.specs.Ready.{answers_text, opening_text, runs_text, shared_runs};
 ghost use Rattle.act_session.specs.Playing.{replies_of};
@@ -15,11 +17,12 @@ ghost use Rattle.act_top.specs.Written.{Writes, faults_after};
 use crate::check::write_words;
 use crate::journal::{CALLER, ask_count};
 use crate::reading::Script;
+use crate::rows::{no_lines, write_rows};
 use crate::writing::{Stop, write_line};
 use act_io::Sink;
-use act_model::{Answer, Close, Item, Line, Names, Row, Rows, Run};
+use act_model::{Answer, Close, Item, Line, Names, Run};
 use act_print::{answer_head, answers_head, block_head, item_line, journal_head};
-use act_text::{close_line, row_line};
+use act_text::{RowLines, close_line};
 use itoa::Buffer;
 use std::alloc::Global;
 use std::sync::Arc;
@@ -39,11 +42,12 @@ pub(crate) fn write_opening<K: Sink>(
 }
 
 /// Writes a journal, and the answers to the asks of its callers, caller after caller. It answers whether each block ends
-/// in `end`.
+/// in `end`. `contracts` is for how many contracts lines are kept from one answer to the next.
 pub(crate) fn write_transcript<K: Sink>(
     alloc: Global,
     out: &mut K,
     names: &Names,
+    contracts: usize,
     items: &[Item],
     answers: &[Vec<Answer>],
 ) -> Result<bool, Stop>
@@ -55,10 +59,12 @@ pub(crate) fn write_transcript<K: Sink>(
     ensures faults { K.faults out.new ≡ faults_after result (K.faults out.old) }
 {
     let mut line = Vec::new(alloc);
+    let count = answer_count(answers);
+    let mut kept = no_lines(alloc, names, contracts, count)?;
     write_journal_head(out, &mut line, items.len())?;
     write_items(out, &mut line, names, items)?;
-    write_answers_head(out, &mut line, answer_count(answers))?;
-    write_answer_lists(out, &mut line, names, answers)
+    write_answers_head(out, &mut line, count)?;
+    write_answer_lists(out, &mut line, names, &mut kept, answers)
 }
 
 /// Writes the line of how many rows were computed.
@@ -179,16 +185,19 @@ fn write_answer_lists<K: Sink>(
     out: &mut K,
     line: &mut Vec<u8>,
     names: &Names,
+    kept: &mut [RowLines<'_>],
     lists: &[Vec<Answer>],
 ) -> Result<bool, Stop>
-    requires { All (λ (answer : Reply). All (λ (run : ℕ × Stream). run.0 < length names.now.contracts) answer.runs) (replies_of lists.now) }
+    requires named { All (λ (answer : Reply). All (λ (run : ℕ × Stream). run.0 < length names.now.contracts) answer.runs) (replies_of lists.now) }
+    requires kept { AreWrittenWith names.now kept.old }
     ensures text { Writes result (answers_text names.now (replies_of lists.now)) (K.written out.old) (K.written out.new) }
     ensures ended { IfOk result (λ ended. ended ≡ list_all ends_well (replies_of lists.now)) }
     ensures faults { K.faults out.new ≡ faults_after result (K.faults out.old) }
+    ensures kept { AreWrittenWith names.now kept.new }
 {
     let mut ended = true;
     for answers in lists {
-        let ends = write_answer_list(out, line, names, answers)?;
+        let ends = write_answer_list(out, line, names, kept, answers)?;
         ended &= ends;
     }
     Ok(ended)
@@ -199,35 +208,42 @@ fn write_answer_list<K: Sink>(
     out: &mut K,
     line: &mut Vec<u8>,
     names: &Names,
+    kept: &mut [RowLines<'_>],
     answers: &[Answer],
 ) -> Result<bool, Stop>
-    requires { All (λ (answer : Reply). All (λ (run : ℕ × Stream). run.0 < length names.now.contracts) answer.runs) answers.now }
+    requires named { All (λ (answer : Reply). All (λ (run : ℕ × Stream). run.0 < length names.now.contracts) answer.runs) answers.now }
+    requires kept { AreWrittenWith names.now kept.old }
     ensures text { Writes result (answers_text names.now answers.now) (K.written out.old) (K.written out.new) }
     ensures ended { IfOk result (λ ended. ended ≡ list_all ends_well answers.now) }
     ensures faults { K.faults out.new ≡ faults_after result (K.faults out.old) }
+    ensures kept { AreWrittenWith names.now kept.new }
 {
     let mut ended = true;
     for answer in answers {
-        let ends = write_answer(out, line, names, answer)?;
+        let ends = write_answer(out, line, names, kept, answer)?;
         ended &= ends;
     }
     Ok(ended)
 }
 
-/// Writes an answer, and answers whether each of its blocks ends in `end`.
+/// Writes an answer, and answers whether each of its blocks ends in `end`. `kept` has the lines of rows that were written last,
+/// here and below.
 pub(crate) fn write_answer<K: Sink>(
     out: &mut K,
     line: &mut Vec<u8>,
     names: &Names,
+    kept: &mut [RowLines<'_>],
     answer: &Answer,
 ) -> Result<bool, Stop>
-    requires { All (λ (run : ℕ × Stream). run.0 < length names.now.contracts) answer.now.runs }
+    requires named { All (λ (run : ℕ × Stream). run.0 < length names.now.contracts) answer.now.runs }
+    requires kept { AreWrittenWith names.now kept.old }
     ensures text { Writes result (answer_text names.now (printed_answer answer.now)) (K.written out.old) (K.written out.new) }
     ensures ended { IfOk result (λ ended. ended ≡ ends_well answer.now) }
     ensures faults { K.faults out.new ≡ faults_after result (K.faults out.old) }
+    ensures kept { AreWrittenWith names.now kept.new }
 {
     write_answer_head(out, line, answer)?;
-    write_blocks(out, line, names, &answer.runs)
+    write_blocks(out, line, names, kept, &answer.runs)
 }
 
 /// Writes the blocks of contracts with their runs, and answers whether each ends in `end`.
@@ -235,16 +251,19 @@ fn write_blocks<K: Sink>(
     out: &mut K,
     line: &mut Vec<u8>,
     names: &Names,
+    kept: &mut [RowLines<'_>],
     runs: &[(u32, Arc<Run, Global>)],
 ) -> Result<bool, Stop>
-    requires { All (λ (run : ℕ × Stream). run.0 < length names.now.contracts) (shared_runs runs.now) }
+    requires named { All (λ (run : ℕ × Stream). run.0 < length names.now.contracts) (shared_runs runs.now) }
+    requires kept { AreWrittenWith names.now kept.old }
     ensures text { Writes result (runs_text names.now (shared_runs runs.now)) (K.written out.old) (K.written out.new) }
     ensures ended { IfOk result (λ ended. ended ≡ all_end (shared_runs runs.now)) }
     ensures faults { K.faults out.new ≡ faults_after result (K.faults out.old) }
+    ensures kept { AreWrittenWith names.now kept.new }
 {
     let mut ended = true;
     for run in runs {
-        let ends = write_block(out, line, names, run.0, &run.1)?;
+        let ends = write_block(out, line, names, kept, run.0, &run.1)?;
         ended &= ends;
     }
     Ok(ended)
@@ -255,15 +274,18 @@ fn write_block<K: Sink>(
     out: &mut K,
     line: &mut Vec<u8>,
     names: &Names,
+    kept: &mut [RowLines<'_>],
     contract: u32,
-    run: &Run,
+    run: &Arc<Run, Global>,
 ) -> Result<bool, Stop>
-    requires { contract < length names.now.contracts }
-    ensures text { Writes result (block_text names.now (printed_block (contract, run.now))) (K.written out.old) (K.written out.new) }
-    ensures ended { IfOk result (λ ended. ended ≡ is_end run.now.close) }
+    requires contract { contract < length names.now.contracts }
+    requires kept { AreWrittenWith names.now kept.old }
+    ensures text { Writes result (block_text names.now (printed_block (contract, arc_value run.now))) (K.written out.old) (K.written out.new) }
+    ensures ended { IfOk result (λ ended. ended ≡ is_end (arc_value run.now).close) }
     ensures faults { K.faults out.new ≡ faults_after result (K.faults out.old) }
+    ensures kept { AreWrittenWith names.now kept.new }
 {
-    write_run(out, line, names, contract, run)?;
+    write_run(out, line, names, kept, contract, run)?;
     Ok(is_end(&run.close))
 }
 
@@ -282,15 +304,18 @@ fn write_run<K: Sink>(
     out: &mut K,
     line: &mut Vec<u8>,
     names: &Names,
+    kept: &mut [RowLines<'_>],
     contract: u32,
-    run: &Run,
+    run: &Arc<Run, Global>,
 ) -> Result<(), Stop>
     requires contract { contract < length names.now.contracts }
-    ensures text { Writes result (block_text names.now (printed_block (contract, run.now))) (K.written out.old) (K.written out.new) }
+    requires kept { AreWrittenWith names.now kept.old }
+    ensures text { Writes result (block_text names.now (printed_block (contract, arc_value run.now))) (K.written out.old) (K.written out.new) }
     ensures faults { K.faults out.new ≡ faults_after result (K.faults out.old) }
+    ensures kept { AreWrittenWith names.now kept.new }
 {
     write_block_head(out, line, names, contract)?;
-    write_rows(out, line, names, &run.rows)?;
+    write_rows(out, line, names, kept, contract, run)?;
     write_close(out, line, names, &run.close)
 }
 
@@ -307,32 +332,6 @@ fn write_block_head<K: Sink>(
 {
     line.clear();
     block_head(names, contract, line)?;
-    write_line(out, line)
-}
-
-/// Writes the lines of rows.
-fn write_rows<K: Sink>(
-    out: &mut K,
-    line: &mut Vec<u8>,
-    names: &Names,
-    rows: &Rows,
-) -> Result<(), Stop>
-    ensures text { Writes result (flat_map (row_text names.now) rows.now) (K.written out.old) (K.written out.new) }
-    ensures faults { K.faults out.new ≡ faults_after result (K.faults out.old) }
-{
-    for place in 0..rows.count() {
-        write_row(out, line, names, rows.row(place))?;
-    }
-    Ok(())
-}
-
-/// Writes the line of a row.
-fn write_row<K: Sink>(out: &mut K, line: &mut Vec<u8>, names: &Names, row: &Row) -> Result<(), Stop>
-    ensures text { Writes result (row_text names.now row.now) (K.written out.old) (K.written out.new) }
-    ensures faults { K.faults out.new ≡ faults_after result (K.faults out.old) }
-{
-    line.clear();
-    row_line(names, row, line)?;
     write_line(out, line)
 }
 

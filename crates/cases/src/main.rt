@@ -9,6 +9,7 @@ mod contracts;
 mod days;
 mod json;
 mod kept;
+mod lists;
 mod many;
 mod naming;
 mod numbers;

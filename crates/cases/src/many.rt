@@ -17,13 +17,18 @@ const FIRST_DAY: u32 = 18_262;
 
 /// Numbers that are drawn one after the other.
 #[derive(Drop)]
-struct Draws {
+pub struct Draws {
     x: u64,
 }
 
 impl Draws {
+    /// Those that begin so.
+    pub fn of(seed: u32) -> Draws {
+        Draws { x: u64::from(seed) }
+    }
+
     /// The next one, below a bound.
-    fn below(&mut self, bound: u32) -> u32
+    pub fn below(&mut self, bound: u32) -> u32
         requires { 0 < bound }
         ensures { result < bound }
     {
@@ -34,8 +39,13 @@ impl Draws {
         (self.x >> 33) as u32 % bound
     }
 
+    /// An amount below a millionth.
+    pub fn amount(&mut self) -> Option<Fixed> {
+        Fixed::from_units(i128::from(self.below(1_000)))
+    }
+
     /// A day of 400.
-    fn day(&mut self) -> Option<Day> {
+    pub fn day(&mut self) -> Option<Day> {
         Day::from_number(i64::from(FIRST_DAY + self.below(400)))
     }
 
@@ -44,7 +54,7 @@ impl Draws {
         ensures { IfSome result (λ entry. is_entry entry ≡ true) }
     {
         let (is_event, whose, day) = (self.below(4) == 0, self.below(3), self.day()?);
-        let value = Fixed::from_units(i128::from(self.below(1_000)))?;
+        let value = self.amount()?;
         Some(if is_event {
             Obs::Event {
                 contract: whose,
@@ -66,9 +76,7 @@ impl Draws {
 /// questions there are is given, and from where they are drawn.
 pub fn disagreements_told(told: &mut Told, words: &mut Words<'_>) {
     let (count, questions) = (words.count(), words.count());
-    let mut draws = Draws {
-        x: u64::from(words.count()),
-    };
+    let mut draws = Draws::of(words.count());
     match disagreements(told.alloc, &mut draws, count, questions) {
         Some(differ) => told.value(differ),
         None => told.fail(Trouble::NoMemory),

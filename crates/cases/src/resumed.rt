@@ -9,6 +9,7 @@ ghost use Rattle.act_profile.specs.Stops.{comes_before, rows_before, stop_day};
 ghost use Rattle.act_swap.specs.Children.{AreInDayOrder, RunsAreInDayOrder};
 
 use crate::contracts::portfolio;
+use crate::lists::lists_told;
 use crate::scripts::read;
 use crate::told::Told;
 use crate::trouble::Trouble;
@@ -49,6 +50,7 @@ impl Model for Evaluated {
 pub fn answer<F: Files>(told: &mut Told, words: &mut Words<'_>, files: &mut F, call: &str) {
     match call {
         "resume" => resumed_told(told, words, files),
+        "lists" => lists_told(told, words),
         _ => told.fail(Trouble::NoCall),
     }
 }

@@ -9,7 +9,7 @@ use Rattle.act_top.proofs.Texts.{drop-next, drop-past, left-all, left-next, left
 use Rattle.act_top.proofs.transcript.write_answer_list.Goals as goal
 
 pub loop-answer-init : goal.loop-answer-init
-loop-answer-init g c = record { text = left-all _ _; ends = refl; faults = refl }
+loop-answer-init g c = record { text = left-all _ _; ends = refl; faults = refl; kept = c.requires.kept }
 
 pub loop-answer-preserved : goal.loop-answer-preserved
 loop-answer-preserved g c =
@@ -24,6 +24,7 @@ loop-answer-preserved g c =
           ∙ (ap (λ (b : Bool). c.loop-answer.ended && (b && rest)) c.in_ok-ends.ensures.ended
           ∙ (ap (λ (rs : List Reply). c.loop-answer.ended && list_all ends_well rs) (sym here) ∙ c.loop-answer.invariant.ends));
       faults = c.in_ok-ends.ensures.faults ∙ c.loop-answer.invariant.faults;
+      kept = c.in_ok-ends.ensures.kept;
     }
 
 pub returns-in_err-ends-clause-text : goal.returns-in_err-ends-clause-text

@@ -13,11 +13,11 @@ use Rattle.act_top.proofs.Texts.{drop-next, drop-past, left-all, left-next, left
 use Rattle.act_top.proofs.transcript.write_answer_lists.Goals as goal
 
 pub loop-answers-init : goal.loop-answers-init
-loop-answers-init g c = record { text = left-all _ _; ends = refl; faults = refl }
+loop-answers-init g c = record { text = left-all _ _; ends = refl; faults = refl; kept = c.requires.kept }
 
-pub write_answer_list-requires : goal.write_answer_list-requires
-write_answer_list-requires g c =
-    rw c.deref.ensures.value (all-inside (λ (answer : Reply). All (λ (run : ℕ × Stream). run.0 < length c.args.names.now.contracts) answer.runs) c.args.lists.now c.loop-answers.answers-index c.answers-item.result c.loop-answers-test.true c.answers-item.is c.requires)
+pub write_answer_list-requires-clause-named : goal.write_answer_list-requires-clause-named
+write_answer_list-requires-clause-named g c =
+    rw c.deref.ensures.value (all-inside (λ (answer : Reply). All (λ (run : ℕ × Stream). run.0 < length c.args.names.now.contracts) answer.runs) c.args.lists.now c.loop-answers.answers-index c.answers-item.result c.loop-answers-test.true c.answers-item.is c.requires.named)
 
 pub loop-answers-preserved : goal.loop-answers-preserved
 loop-answers-preserved g c =
@@ -36,6 +36,7 @@ loop-answers-preserved g c =
           ∙ (ap (λ (b : Bool). c.loop-answers.ended && (b && rest)) ended
           ∙ (ap (λ (b : Bool). c.loop-answers.ended && b) (sym both) ∙ c.loop-answers.invariant.ends));
       faults = c.in_ok-ends.ensures.faults ∙ c.loop-answers.invariant.faults;
+      kept = c.in_ok-ends.ensures.kept;
     }
 
 pub returns-in_err-ends-clause-text : goal.returns-in_err-ends-clause-text

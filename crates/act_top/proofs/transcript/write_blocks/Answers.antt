@@ -14,15 +14,15 @@ use Rattle.act_top.proofs.Texts.{drop-next, drop-past, left-all, left-next, left
 use Rattle.act_top.proofs.transcript.write_blocks.Goals as goal
 
 pub loop-run-init : goal.loop-run-init
-loop-run-init g c = record { text = left-all _ _; ends = refl; faults = refl }
+loop-run-init g c = record { text = left-all _ _; ends = refl; faults = refl; kept = c.requires.kept }
 
-pub write_block-requires : goal.write_block-requires
-write_block-requires g c =
+pub write_block-requires-clause-contract : goal.write_block-requires-clause-contract
+write_block-requires-clause-contract g c =
     let runs = c.args.runs.now in
     let i = c.loop-run.run-index in
     let item = c.run-item.result in
     let within = c.loop-run-test.true in
-    let named = c.requires i (item.0, arc_value item.1) (omega (arith, within, length-map {B = ℕ × Stream} runs (λ (run : ℕ × Arc Stream Global). (run.0, arc_value run.1)))) in
+    let named = c.requires.named i (item.0, arc_value item.1) (omega (arith, within, length-map {B = ℕ × Stream} runs (λ (run : ℕ × Arc Stream Global). (run.0, arc_value run.1)))) in
     let here : get_or (shared_runs runs) i (item.0, arc_value item.1) ≡ (item.0, arc_value item.1) = get_or-map (λ (run : ℕ × Arc Stream Global). (run.0, arc_value run.1)) runs i item (item.0, arc_value item.1) within ∙ ap (λ (run : ℕ × Arc Stream Global). (run.0, arc_value run.1)) (sym c.run-item.is) in
     omega (arith, named, ap (λ (run : ℕ × Stream). run.0) here)
 
@@ -34,13 +34,14 @@ loop-run-preserved g c =
     let item = c.run-item.result in
     let here = drop-next runs i item c.loop-run-test.true c.run-item.is in
     let rest = shared_runs (drop (i + 1) runs) in
-    let ends_so : c.in_ok-ends.ends ≡ is_end (arc_value item.1).close = c.in_ok-ends.ensures.ended ∙ ap (λ (run : Stream). is_end run.close) c.deref.ensures in
+    let ends_so : c.in_ok-ends.ends ≡ is_end (arc_value item.1).close = c.in_ok-ends.ensures.ended in
     record {
-      text = left-next _ _ (block_text names (printed_block (item.0, arc_value item.1))) _ _ _ _ c.loop-run.invariant.text (ap (λ (rs : List (ℕ × Arc Stream Global)). runs_text names (shared_runs rs)) here) (rw c.deref.ensures at c.in_ok-ends.ensures.text);
+      text = left-next _ _ (block_text names (printed_block (item.0, arc_value item.1))) _ _ _ _ c.loop-run.invariant.text (ap (λ (rs : List (ℕ × Arc Stream Global)). runs_text names (shared_runs rs)) here) c.in_ok-ends.ensures.text;
       ends = and_assoc c.loop-run.ended c.in_ok-ends.ends (all_end rest)
           ∙ (ap (λ (b : Bool). c.loop-run.ended && (b && all_end rest)) ends_so
           ∙ (ap (λ (rs : List (ℕ × Arc Stream Global)). c.loop-run.ended && all_end (shared_runs rs)) (sym here) ∙ c.loop-run.invariant.ends));
       faults = c.in_ok-ends.ensures.faults ∙ c.loop-run.invariant.faults;
+      kept = c.in_ok-ends.ensures.kept;
     }
 
 pub returns-in_err-ends-clause-text : goal.returns-in_err-ends-clause-text
@@ -50,7 +51,7 @@ returns-in_err-ends-clause-text g c =
     let item = c.run-item.result in
     let here = drop-next runs c.loop-run.run-index item c.loop-run-test.true c.run-item.is in
     writes-part c.from_residual.result _ _ _ _ c.from_residual.ensures.1
-    (left-part c.in_err-ends.field-0.0 _ _ (block_text names (printed_block (item.0, arc_value item.1))) _ _ _ _ c.loop-run.invariant.text (ap (λ (rs : List (ℕ × Arc Stream Global)). runs_text names (shared_runs rs)) here) (rw c.deref.ensures at c.in_err-ends.ensures.text))
+    (left-part c.in_err-ends.field-0.0 _ _ (block_text names (printed_block (item.0, arc_value item.1))) _ _ _ _ c.loop-run.invariant.text (ap (λ (rs : List (ℕ × Arc Stream Global)). runs_text names (shared_runs rs)) here) c.in_err-ends.ensures.text)
 
 pub returns-clause-text : goal.returns-clause-text
 returns-clause-text g c =

@@ -1,12 +1,15 @@
 use Rattle.act_session.specs.Playing.{replies_of}
 use Rattle.act_top.proofs.Journals.{transcript-parts}
-use Rattle.act_top.proofs.Texts.{part-behind, part-first, then-text, writes-behind, writes-first}
+use Rattle.act_top.proofs.Texts.{part-behind, part-first, then-text, writes-behind, writes-first, writes-none}
 use Rattle.act_top.proofs.transcript.write_transcript.Goals as goal
+
+pub returns-in_err-kept-clause-text : goal.returns-in_err-kept-clause-text
+returns-in_err-kept-clause-text g c = writes-none c.from_residual.result _ _ c.from_residual.ensures.1
 
 pub returns-in_err-write_journal_head-clause-text : goal.returns-in_err-write_journal_head-clause-text
 returns-in_err-write_journal_head-clause-text g c =
     rw (transcript-parts c.args.names.now c.args.items.now (replies_of c.args.answers.now))
-    (writes-first c.from_residual.result _ _ _ _ _ c.from_residual.ensures.1
+    (writes-first c.from_residual-in_err-write_journal_head.result _ _ _ _ _ c.from_residual-in_err-write_journal_head.ensures.1
     (part-first c.in_err-write_journal_head.field-0.0 _ _ _ _
     (part-first c.in_err-write_journal_head.field-0.0 _ _ _ _ c.in_err-write_journal_head.ensures.text)))
 
@@ -22,11 +25,11 @@ returns-in_err-write_answers_head-clause-text g c =
     rw (transcript-parts c.args.names.now c.args.items.now (replies_of c.args.answers.now))
     (writes-first c.from_residual-in_err-write_answers_head.result _ _ _ _ _ c.from_residual-in_err-write_answers_head.ensures.1
     (part-behind c.in_err-write_answers_head.field-0.0 _ _ _ _ _ (then-text _ _ _ _ _ c.in_ok-write_journal_head.ensures.text c.in_ok-write_items.ensures.text)
-    (rw c.answer_count.ensures at c.in_err-write_answers_head.ensures.text)))
+    (rw c.answer_count-count.ensures at c.in_err-write_answers_head.ensures.text)))
 
 pub returns-clause-text : goal.returns-clause-text
 returns-clause-text g c =
     rw (transcript-parts c.args.names.now c.args.items.now (replies_of c.args.answers.now))
     (writes-behind c.write_answer_lists.result _ _ _ _ _
-    (then-text _ _ _ _ _ (then-text _ _ _ _ _ c.in_ok-write_journal_head.ensures.text c.in_ok-write_items.ensures.text) (rw c.answer_count.ensures at c.in_ok-write_answers_head.ensures.text))
+    (then-text _ _ _ _ _ (then-text _ _ _ _ _ c.in_ok-write_journal_head.ensures.text c.in_ok-write_items.ensures.text) (rw c.answer_count-count.ensures at c.in_ok-write_answers_head.ensures.text))
     c.write_answer_lists.ensures.text)

@@ -4,6 +4,7 @@ use Rattle.std.specs.Prelude.{◌&&◌}
 use Rattle.act_board.specs.History.{History, and_then, asks_by, entries_of, version_of}
 use Rattle.act_board.specs.declared.mark.Mark.TheVariants as mark
 use Rattle.act_model.specs.Answer.{Reply}
+use Rattle.act_model.specs.Names.{NameLists}
 use Rattle.act_model.specs.Run.{Stream}
 use Rattle.act_model.specs.declared.asks.Asking.{Asking}
 use Rattle.act_model.specs.declared.observed.Obs.{Obs}
@@ -13,13 +14,15 @@ use Rattle.act_model.specs.Journal.{book_of, is_known}
 use Rattle.act_model.specs.declared.journal.Line.{Line}
 use Rattle.act_model.specs.declared.journal.Step.{Step}
 use Rattle.act_model.specs.declared.journal.Step.TheVariants as step
+use Rattle.std.proofs.lemmas.List.Elements.{All-append, All-drop, All-take}
+use Rattle.act_text.specs.Kept.{AreWrittenWith, Lines}
 use Rattle.act_top.specs.Driven.{AreLatest, IsDriven, IsQuiet}
 use Rattle.act_top.specs.Output.{items_of, too_much_asked}
 use Rattle.act_top.specs.Ready.{Evaluation}
 use Rattle.act_top.specs.Work.{ask_work, asks_work}
 use Rattle.act_top.proofs.Answering.{Answering, answering-all, answering-none, answers-are}
 use Rattle.act_top.proofs.Stepping.{answered-part, answering-appended, answering-asked, append-asks, book-begins, driven-append, driven-ask, driven-first, driven-line, has-quota, known-same, reply-named, stopped-part, work-all}
-use Rattle.act_top.proofs.Texts.{drop-next, drop-past, writes-part}
+use Rattle.act_top.proofs.Texts.{drop-next, drop-past, writes-none, writes-part}
 use Rattle.act_top.proofs.Working.{work-push}
 use Rattle.act_top.proofs.evaluation.Evaluation.write_answers.Goals as goal
 use Rattle.act_top.proofs.evaluation.Evaluation.write_answers.Goals.{in-Append+in_ok-append-in-Append, in-Ask+in_ok-answer-in-Ask+in_ok-ends-in-Ask}
@@ -34,7 +37,11 @@ loop-step-init g c =
       ticks = omega arith;
       counted = omega arith;
       faults = refl;
+      kept = subst (λ (names : NameLists). AreWrittenWith names c.in_ok-kept.kept.items) c.names.ensures.names c.in_ok-kept.ensures;
     })
+
+pub returns-in_err-kept-clause-text : goal.returns-in_err-kept-clause-text
+returns-in_err-kept-clause-text g c = writes-none c.from_residual.result _ _ c.from_residual.ensures.1
 
 pub append-requires-clause-quota : goal.append-requires-clause-quota
 append-requires-clause-quota g c =
@@ -76,12 +83,14 @@ loop-step-preserved g c =
             );
             counted = omega (arith, w.steps-is, w.work-is, c.loop-step.invariant.counted);
             faults = rw w.out-is c.loop-step.invariant.faults;
+            kept = rw w.kept-is c.loop-step.invariant.kept;
           }
       | in-Ask+in_ok-answer-in-Ask+in_ok-ends-in-Ask w ↦
           let asked = w.in-Ask.asked in
           let told = w.in_ok-answer-in-Ask.ensures in
           let after = w.answer.new.board in
-          let of : w.deref.result.now ≡ e.portfolio = search rules in
+          let of : w.deref-in-Ask.result.now ≡ e.portfolio = search rules in
+          let with_names : Lines → Type 0 = λ lines. lines.names ≡ e.script.names in
           let driven = driven-line e.portfolio all _ left c.step-item.result _ c.loop-step.board here w.in-Ask.is c.loop-step.invariant.driven in
           let quiet = subst (λ (p : Accepted). IsQuiet p after) of told.quiet in
           let ask : Asking = record { caller = 1; number = 1 + length (asks_by c.loop-step.board 1); version = version_of c.loop-step.board; asked = asked } in
@@ -92,7 +101,7 @@ loop-step-preserved g c =
           of told.ticked in
           let same : e.script.names.contracts ≡ e.portfolio.names.contracts = ap (λ (v : Evaluation). v.script.names.contracts) (sym c.self.view_is) ∙ (c.self.invariant.lines.contracts ∙ ap (λ (v : Evaluation). v.portfolio.names.contracts) c.self.view_is) in
           let written = answering-asked e.portfolio e.script.names e.script.lines c.loop-step.board c.step-item.result left c.loop-step.ended (g.K.Sink.written c.args.out.now) (g.K.Sink.written c.loop-step.out) now asked driven same w.in-Ask.is after w.in_ok-answer-in-Ask.answer
-          w.in_ok-ends-in-Ask.ends _ reply-is told.asked (rw w.names.ensures.names at w.in_ok-ends-in-Ask.ensures.text) w.in_ok-ends-in-Ask.ensures.ended in
+          w.in_ok-ends-in-Ask.ends _ reply-is told.asked (rw w.names-in-Ask.ensures.names at w.in_ok-ends-in-Ask.ensures.text) w.in_ok-ends-in-Ask.ensures.ended in
           record {
             driven = subst (IsDriven e.portfolio all (items_of left)) (sym w.board-is) (driven-ask e.portfolio all (items_of left) c.loop-step.board after asked driven quiet told.closed told.asked latest);
             answering = rw (w.out-is, w.ended-is)
@@ -108,6 +117,7 @@ loop-step-preserved g c =
             );
             counted = omega (arith, w.steps-is, w.work-is, c.loop-step.invariant.counted, told.counted);
             faults = rw w.out-is (w.in_ok-ends-in-Ask.ensures.faults ∙ c.loop-step.invariant.faults);
+            kept = rw w.kept-is (All-take with_names _ _ (All-append with_names w.write_answer-written.new.kept _ (rw w.names-in-Ask.ensures.names at w.in_ok-ends-in-Ask.ensures.kept) (All-drop with_names _ c.loop-step.kept.items c.loop-step.invariant.kept)));
           }
     ]
 
@@ -115,7 +125,7 @@ pub returns-in_err-append-in-Append-clause-text : goal.returns-in_err-append-in-
 returns-in_err-append-in-Append-clause-text g c =
     let e = c.args.self.now in
     rw (answers-are e.portfolio e.script.names (book_of (items_of e.script.lines)) e.script.lines refl)
-    (writes-part c.from_residual.result _ _ _ _ c.from_residual.ensures.1 (stopped-part e.portfolio e.script.names (book_of (items_of e.script.lines)) e.script.lines _ _ _ _ _ _ c.loop-step.invariant.answering))
+    (writes-part c.from_residual-in_err-append-in-Append.result _ _ _ _ c.from_residual-in_err-append-in-Append.ensures.1 (stopped-part e.portfolio e.script.names (book_of (items_of e.script.lines)) e.script.lines _ _ _ _ _ _ c.loop-step.invariant.answering))
 
 pub returns-in_err-answer-in-Ask-clause-text : goal.returns-in_err-answer-in-Ask-clause-text
 returns-in_err-answer-in-Ask-clause-text g c =
@@ -123,8 +133,8 @@ returns-in_err-answer-in-Ask-clause-text g c =
     rw (answers-are e.portfolio e.script.names (book_of (items_of e.script.lines)) e.script.lines refl)
     (writes-part c.from_residual-in_err-answer-in-Ask.result _ _ _ _ c.from_residual-in_err-answer-in-Ask.ensures.1 (stopped-part e.portfolio e.script.names (book_of (items_of e.script.lines)) e.script.lines _ _ _ _ _ _ c.loop-step.invariant.answering))
 
-pub write_answer-written-requires : goal.write_answer-written-requires
-write_answer-written-requires g c =
+pub write_answer-written-requires-clause-named : goal.write_answer-written-requires-clause-named
+write_answer-written-requires-clause-named g c =
     let e = c.args.self.now in
     let i = c.loop-step.step-index in
     let all = items_of e.script.lines in
@@ -133,7 +143,7 @@ write_answer-written-requires g c =
     let within : i < length e.script.lines = omega (arith, c.loop-step-test.true, ap length lines_are) in
     let here = drop-next e.script.lines i c.step-item.result within (c.step-item.is ∙ ap (λ (ls : List Line). get_or ls i c.step-item.result) lines_are) in
     let asked = c.in-Ask.asked in
-    let of : c.deref.result.now ≡ e.portfolio = search rules in
+    let of : c.deref-in-Ask.result.now ≡ e.portfolio = search rules in
     let ask : Asking = record { caller = 1; number = 1 + length (asks_by c.loop-step.board 1); version = version_of c.loop-step.board; asked = asked } in
     let reply-is = subst (λ (p : Accepted). c.in_ok-answer-in-Ask.answer ≡ answer_to p.contracts p.names (entries_of c.loop-step.board) ask) of c.in_ok-answer-in-Ask.ensures.answer in
     let same : e.script.names.contracts ≡ e.portfolio.names.contracts = ap (λ (v : Evaluation). v.script.names.contracts) (sym c.self.view_is) ∙ (c.self.invariant.lines.contracts ∙ ap (λ (v : Evaluation). v.portfolio.names.contracts) c.self.view_is) in
@@ -142,7 +152,7 @@ write_answer-written-requires g c =
     let this : is_known e.script.names (step.Ask asked) ≡ true =
     subst (λ (t : Step). is_known e.script.names t ≡ true) c.in-Ask.is (subst (λ (line : Line). is_known e.script.names line.step ≡ true) (sym item_is) (all-known i c.step-item.result within)) in
     let known : is_known e.portfolio.names (step.Ask asked) ≡ true = sym (known-same e.script.names e.portfolio.names asked same) ∙ this in
-    subst (λ (ids : List (List ℕ)). All (λ (run : ℕ × Stream). run.0 < length ids) c.in_ok-answer-in-Ask.answer.runs) (sym c.names.ensures.contracts)
+    subst (λ (ids : List (List ℕ)). All (λ (run : ℕ × Stream). run.0 < length ids) c.in_ok-answer-in-Ask.answer.runs) (sym c.names-in-Ask.ensures.contracts)
     (subst (λ (r : Reply). All (λ (run : ℕ × Stream). run.0 < length e.portfolio.names.contracts) r.runs) (sym reply-is) (reply-named e.portfolio.contracts e.portfolio.names (entries_of c.loop-step.board) ask known))
 
 pub returns-in_err-ends-in-Ask-clause-text : goal.returns-in_err-ends-in-Ask-clause-text
@@ -156,13 +166,13 @@ returns-in_err-ends-in-Ask-clause-text g c =
     let here = drop-next e.script.lines i c.step-item.result within (c.step-item.is ∙ ap (λ (ls : List Line). get_or ls i c.step-item.result) lines_are) in
     let now = subst (λ (ls : List Line). Answering e.portfolio e.script.names (book_of all) e.script.lines ls (1 + length (asks_by c.loop-step.board 1)) (version_of c.loop-step.board) c.loop-step.ended (g.K.Sink.written c.args.out.now) (g.K.Sink.written c.loop-step.out)) here c.loop-step.invariant.answering in
     let asked = c.in-Ask.asked in
-    let of : c.deref.result.now ≡ e.portfolio = search rules in
+    let of : c.deref-in-Ask.result.now ≡ e.portfolio = search rules in
     let ask : Asking = record { caller = 1; number = 1 + length (asks_by c.loop-step.board 1); version = version_of c.loop-step.board; asked = asked } in
     let reply-is = subst (λ (p : Accepted). c.in_ok-answer-in-Ask.answer ≡ answer_to p.contracts p.names (entries_of c.loop-step.board) ask) of c.in_ok-answer-in-Ask.ensures.answer in
     let same : e.script.names.contracts ≡ e.portfolio.names.contracts = ap (λ (v : Evaluation). v.script.names.contracts) (sym c.self.view_is) ∙ (c.self.invariant.lines.contracts ∙ ap (λ (v : Evaluation). v.portfolio.names.contracts) c.self.view_is) in
     let driven = driven-line e.portfolio all _ left c.step-item.result _ c.loop-step.board here c.in-Ask.is c.loop-step.invariant.driven in
     let part = answered-part e.portfolio e.script.names e.script.lines c.loop-step.board c.step-item.result left c.loop-step.ended (g.K.Sink.written c.args.out.now) (g.K.Sink.written c.loop-step.out) now asked driven same c.in-Ask.is
-    c.in_err-ends-in-Ask.field-0.0 c.in_ok-answer-in-Ask.answer _ reply-is (rw c.names.ensures.names at c.in_err-ends-in-Ask.ensures.text) in
+    c.in_err-ends-in-Ask.field-0.0 c.in_ok-answer-in-Ask.answer _ reply-is (rw c.names-in-Ask.ensures.names at c.in_err-ends-in-Ask.ensures.text) in
     rw (answers-are e.portfolio e.script.names (book_of all) e.script.lines refl) (writes-part c.from_residual-in_err-ends-in-Ask.result _ _ _ _ c.from_residual-in_err-ends-in-Ask.ensures.1 part)
 
 pub returns-clause-text : goal.returns-clause-text

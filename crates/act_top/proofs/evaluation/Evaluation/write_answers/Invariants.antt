@@ -1,6 +1,7 @@
 use Rattle.std.proofs.Common.{◌≡◌, ◌+◌, [], drop, length}
 use Rattle.act_board.specs.History.{asks_by, version_of}
 use Rattle.act_model.specs.Journal.{book_of}
+use Rattle.act_text.specs.Kept.{AreWrittenWith}
 use Rattle.act_top.specs.Driven.{IsDriven}
 use Rattle.act_top.specs.Output.{items_of}
 use Rattle.act_top.specs.Work.{asks_work}
@@ -15,4 +16,5 @@ invariant-loop-step g l = record {
   ticks : l.steps ≡ l.fn.steps + asks_work l.self.portfolio (book_of (items_of l.self.script.lines)) [] (asks_by l.board 1);
   counted : l.work + l.fn.steps ≡ l.fn.work + l.steps;
   faults : g.K.Sink.faults l.out ≡ g.K.Sink.faults l.fn.out;
+  kept : AreWrittenWith l.self.script.names l.kept.items;
 }

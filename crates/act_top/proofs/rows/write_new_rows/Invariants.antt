@@ -2,7 +2,7 @@ use Rattle.std.proofs.Common.{◌≡◌, drop}
 use Rattle.std.specs.List.{flat_map}
 use Rattle.act_text.specs.Lines.{row_text}
 use Rattle.act_top.proofs.Texts.{Left}
-use Rattle.act_top.proofs.transcript.write_rows.Given as goal
+use Rattle.act_top.proofs.rows.write_new_rows.Given as goal
 
 -- the lines of the rows from this one on are still to be written
 abbrev pub invariant-loop-place : goal.invariant-loop-place

@@ -3,7 +3,7 @@ use Rattle.std.specs.List.{flat_map}
 use Rattle.act_text.specs.Lines.{row_text}
 use Rattle.act_top.proofs.Contracts.{drop-at}
 use Rattle.act_top.proofs.Texts.{drop-past, left-all, left-next, left-none, left-part, writes-part}
-use Rattle.act_top.proofs.transcript.write_rows.Goals as goal
+use Rattle.act_top.proofs.rows.write_new_rows.Goals as goal
 
 pub returns-in_err-write_row-clause-text : goal.returns-in_err-write_row-clause-text
 returns-in_err-write_row-clause-text g c =

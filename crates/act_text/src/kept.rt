@@ -1,0 +1,194 @@
+//! Lines of rows that are kept for when they come again.
+ghost use Rattle.std.specs.Prelude.{◌≡◌, ◌++◌, ◌∷◌, [], ◌≤◌, ◌<◌, length, map, take, true, Some, OnOk, OnErr, slice_get};
+ghost use Rattle.std.specs.Arc.{arc_value};
+ghost use Rattle.act_model.specs.Names.{NameLists};
+ghost use Rattle.act_text.specs.Kept.{AreLines, ArePrintedAlike, cells_of, start_at};
+ghost use Rattle.act_text.specs.Lines.{row_text};
+
+use crate::row::row_line;
+use act_date::Day;
+use act_model::{EventType, Names, Row, Rows, Run};
+use act_num::{Fixed, NoMemory};
+use std::alloc::Global;
+use std::marker::Model;
+use std::sync::Arc;
+
+/// The lines of the first rows of a run, one behind the other. Where the lines of another run are wanted which begins with rows
+/// that are printed alike, as after a correction, these lines stay.
+#[derive(Drop)]
+pub struct RowLines<'a> {
+    names: &'a Names,
+    run: Option<Arc<Run, Global>>,
+    text: Vec<u8>,
+    ends: Vec<usize>,
+}
+
+impl<'a> Model for RowLines<'a> {
+    ghost use Rattle.std.specs.Prelude.{◌≤◌, length, take};
+    ghost use Rattle.act_text.specs.Kept.{AreLines, Lines, rows_of};
+
+    ghost Value = { Lines };
+
+    ghost view = { λ l. record { names = l.names.now; rows = take (length l.ends.items) (rows_of l.run) } };
+
+    ghost invariant = { λ l. (length l.ends.items ≤ length (rows_of l.run))
+        × AreLines l.names.now (take (length l.ends.items) (rows_of l.run)) l.text.items l.ends.items };
+}
+
+impl<'a> RowLines<'a> {
+    /// No lines yet. They are written with these names.
+    pub fn new(alloc: Global, names: &'a Names) -> RowLines<'a>
+        ensures names { result.names ≡ names.now }
+        ensures rows { result.rows ≡ [] }
+    {
+        RowLines {
+            names,
+            run: None,
+            text: Vec::new(alloc),
+            ends: Vec::new(alloc),
+        }
+    }
+
+    /// How many lines there are.
+    pub fn count(&self) -> usize
+        ensures { result ≡ length self.now.rows }
+    {
+        self.ends.len()
+    }
+
+    /// The line at a place, from 0.
+    pub fn line(&self, place: usize) -> &[u8]
+        requires { place < length self.now.rows }
+        ensures { slice_get (map (row_text self.now.names) self.now.rows) place ≡ Some result.now }
+    {
+        let start = start_of(&self.ends, place);
+        &self.text[start..self.ends[place]]
+    }
+
+    /// Makes them the lines of a run's rows. Those of the first rows stay, as far as rows are printed alike. Where memory runs
+    /// out, there are the lines of fewer rows.
+    pub fn renew(&mut self, run: &Arc<Run, Global>) -> Result<(), NoMemory>
+        ensures names { self.new.names ≡ self.old.names }
+        ensures rows { OnOk result (self.new.rows ≡ (arc_value run.now).rows) }
+    {
+        let kept = Arc::try_clone(run)?;
+        let same = self.count_alike(&run.rows);
+        self.text.truncate(start_of(&self.ends, same));
+        self.ends.truncate(same);
+        self.run = Some(kept);
+        add_lines(self.names, &run.rows, &mut self.text, &mut self.ends)
+    }
+
+    /// How many rows at the beginning are printed alike.
+    fn count_alike(&self, rows: &Rows) -> usize
+        ensures here { result ≤ length self.now.rows }
+        ensures there { result ≤ length rows.now }
+        ensures alike { ArePrintedAlike (take result self.now.rows) (take result rows.now) }
+    {
+        match &self.run {
+            Some(run) => count_alike(&run.rows, rows, self.ends.len()),
+            None => 0,
+        }
+    }
+}
+
+/// How many rows at the beginning of two lists are printed alike, up to so many.
+fn count_alike(one: &Rows, other: &Rows, most: usize) -> usize
+    requires { most ≤ length one.now }
+    ensures most { result ≤ most }
+    ensures there { result ≤ length other.now }
+    ensures alike { ArePrintedAlike (take result one.now) (take result other.now) }
+{
+    let most = most.min(other.count());
+    for place in 0..most {
+        if !are_printed_alike(one.row(place), other.row(place)) {
+            return place;
+        }
+    }
+    most
+}
+
+/// What is printed of a row.
+#[derive(Clone, Copy, PartialEq, Eq)]
+struct Cells {
+    day: Day,
+    kind: EventType,
+    currency: u32,
+    payoff: Fixed,
+    notional: Fixed,
+    rate: Fixed,
+    interest: Fixed,
+}
+
+impl Cells {
+    /// Those of a row.
+    fn of(row: &Row) -> Cells
+        ensures { result ≡ cells_of row.now }
+    {
+        Cells {
+            day: row.day,
+            kind: row.kind,
+            currency: row.currency,
+            payoff: row.payoff,
+            notional: row.state.nt,
+            rate: row.state.ipnr,
+            interest: row.state.ipac,
+        }
+    }
+}
+
+/// Whether what is printed of two rows is the same.
+fn are_printed_alike(one: &Row, other: &Row) -> bool
+    ensures { result ≡ true → (names : NameLists) → row_text names one.now ≡ row_text names other.now }
+{
+    Cells::of(one) == Cells::of(other)
+}
+
+/// Where the line at a place begins, or would begin behind the last.
+fn start_of(ends: &[usize], place: usize) -> usize
+    requires { place ≤ length ends.now }
+    ensures { start_at ends.now place ≡ Some result }
+{
+    match place.checked_sub(1) {
+        Some(before) => ends[before],
+        None => 0,
+    }
+}
+
+/// Adds the lines of the rows that have none yet. Where memory runs out, those of some of them.
+fn add_lines(
+    names: &Names,
+    rows: &Rows,
+    text: &mut Vec<u8>,
+    ends: &mut Vec<usize>,
+) -> Result<(), NoMemory>
+    requires within { length ends.old.items ≤ length rows.now }
+    requires are { AreLines names.now (take (length ends.old.items) rows.now) text.old.items ends.old.items }
+    ensures within { length ends.new.items ≤ length rows.now }
+    ensures are { AreLines names.now (take (length ends.new.items) rows.now) text.new.items ends.new.items }
+    ensures all { OnOk result (length ends.new.items ≡ length rows.now) }
+{
+    while ends.len() < rows.count() {
+        add_line(names, rows.row(ends.len()), text, ends)?;
+    }
+    Ok(())
+}
+
+/// Adds the line of a row. Where memory runs out, both are as before.
+fn add_line(
+    names: &Names,
+    row: &Row,
+    text: &mut Vec<u8>,
+    ends: &mut Vec<usize>,
+) -> Result<(), NoMemory>
+    ensures text { OnOk result (text.new.items ≡ text.old.items ++ row_text names.now row.now) }
+    ensures ends { OnOk result (ends.new.items ≡ ends.old.items ++ length text.new.items ∷ []) }
+    ensures unchanged { OnErr result ((text.new.items ≡ text.old.items) × (ends.new.items ≡ ends.old.items)) }
+{
+    ends.reserve(1)?;
+    row_line(names, row, text)?;
+    let Ok(()) = ends.push(text.len()) else {
+        unreachable!()
+    };
+    Ok(())
+}

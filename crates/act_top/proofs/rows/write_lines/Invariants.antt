@@ -1,0 +1,12 @@
+use Rattle.std.proofs.Common.{◌≡◌, drop, map}
+use Rattle.std.specs.List.{flat_map}
+use Rattle.act_text.specs.Lines.{row_text}
+use Rattle.act_top.proofs.Texts.{Left}
+use Rattle.act_top.proofs.rows.write_lines.Given as goal
+
+-- the lines from this one on are still to be written
+abbrev pub invariant-loop-place : goal.invariant-loop-place
+invariant-loop-place g l = record {
+  text : Left (flat_map (row_text l.lines.names) l.lines.rows) (flat_map (λ line. line) (drop l.place (map (row_text l.lines.names) l.lines.rows))) (g.K.Sink.written l.fn.out) (g.K.Sink.written l.out);
+  faults : g.K.Sink.faults l.out ≡ g.K.Sink.faults l.fn.out;
+}

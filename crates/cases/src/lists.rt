@@ -1,0 +1,102 @@
+//! Lists of rows that begin alike, beside plain lists.
+use crate::many::Draws;
+use crate::told::Told;
+use crate::trouble::Trouble;
+use crate::words::Words;
+use act_model::{EventType, Row, Rows, State};
+use act_num::Fixed;
+use std::alloc::Global;
+use std::slice;
+
+/// A list of rows, and the plain list that it should be.
+#[derive(Drop)]
+struct Pair {
+    rows: Rows,
+    plain: Vec<Row>,
+}
+
+/// Tells how many of a number of lists of rows differ from plain lists. Each begins with rows of one that was made before, which
+/// stays, and goes on with others; how many of each is drawn. How many lists there are is given, how many rows are added to one at
+/// most, and from where they are drawn.
+pub fn lists_told(told: &mut Told, words: &mut Words<'_>) {
+    let (count, most) = (words.count(), words.count());
+    let mut draws = Draws::of(words.count());
+    match pairs(told.alloc, &mut draws, count, most) {
+        Some(pairs) => {
+            let differ = pairs.iter().filter(|pair| !is_same(pair)).count();
+            told.value(differ);
+        }
+        None => told.fail(Trouble::NoMemory),
+    }
+}
+
+/// So many lists, of which each but the first begins as one before it.
+fn pairs(alloc: Global, draws: &mut Draws, count: u32, most: u32) -> Option<Vec<Pair>> {
+    let mut pairs = Vec::new(alloc);
+    let mut pair = Pair {
+        rows: Rows::new(alloc),
+        plain: Vec::new(alloc),
+    };
+    for made in 0..count {
+        for _ in 0..draws.below(most.max(1)) {
+            let row = row(draws)?;
+            pair.rows.push(&row).ok()?;
+            pair.plain.extend_from_slice(slice::from_ref(&row)).ok()?;
+        }
+        pairs.push(pair).ok()?;
+        let place = draws.below(made.saturating_add(1)) as usize;
+        pair = begun(alloc, draws, pairs.get(place)?)?;
+    }
+    Some(pairs)
+}
+
+/// A list with the first rows of another, so many as are drawn.
+fn begun(alloc: Global, draws: &mut Draws, other: &Pair) -> Option<Pair> {
+    let all = other.rows.count();
+    let bound = u32::try_from(all).ok()?.saturating_add(1);
+    let kept = (draws.below(bound) as usize).min(all);
+    let rows = other.rows.first(alloc, kept).ok()?;
+    let plain = other.plain.get(..kept)?.to_vec(alloc).ok()?;
+    Some(Pair { rows, plain })
+}
+
+/// Whether both have the same rows.
+fn is_same(pair: &Pair) -> bool {
+    if pair.rows.count() != pair.plain.len() {
+        return false;
+    }
+    for place in 0..pair.rows.count() {
+        if Some(pair.rows.row(place)) != pair.plain.get(place) {
+            return false;
+        }
+    }
+    true
+}
+
+/// A row whose amounts are drawn.
+fn row(draws: &mut Draws) -> Option<Row> {
+    let (day, payoff) = (draws.day()?, draws.amount()?);
+    let state = State {
+        sd: Some(day),
+        md: None,
+        xd: None,
+        nt: draws.amount()?,
+        ipnr: Fixed::ZERO,
+        ipac: Fixed::ZERO,
+        ipnr2: Fixed::ZERO,
+        ipac2: Fixed::ZERO,
+        feac: Fixed::ZERO,
+        nsc: Fixed::ZERO,
+        isc: Fixed::ZERO,
+        ipcb: Fixed::ZERO,
+        prnxt: Fixed::ZERO,
+        xa: Fixed::ZERO,
+    };
+    Some(Row {
+        day,
+        kind: EventType::IP,
+        currency: draws.below(3),
+        payoff,
+        state,
+    })
+}
