@@ -8,7 +8,7 @@ use Rattle.act_model.specs.declared.journal.Item.{Item}
 use Rattle.act_model.specs.declared.journal.Step.TheVariants as step
 use Rattle.act_model.specs.declared.observed.Obs.{Obs}
 use Rattle.act_board.specs.History.{History, and_then, entries_of, is_collect_by, is_give_up, is_given_up, item_of, open_asks, version_of}
-use Rattle.act_board.specs.Kept.{AreCallers, IsBoard, IsCaller, IsPast, IsUntouched, Leaves, Spends, owed_by, owed_for}
+use Rattle.act_board.specs.Kept.{AreCallers, IsBoard, IsCaller, IsUntouched, Leaves, Spends, owed_by, owed_for}
 use Rattle.act_board.specs.Legal.{IsLegal}
 use Rattle.act_board.specs.declared.caller.Caller.{Caller}
 use Rattle.act_board.specs.declared.mark.Mark.{Mark}
@@ -52,24 +52,6 @@ module _ (history : History) (capacity : ℕ) (steps : List Item) (book : List O
     front = b.front;
     owing = b.owing;
     room = omega (arith, b.room);
-    fits = b.fits;
-  }
-
-  -- another front
-  pub board-front : (next : ℕ) → IsPast pairs next → IsBoard history capacity steps book all pairs next owes gave_up
-  board-front next past = record {
-    ordered = b.ordered;
-    count = b.count;
-    numbered = b.numbered;
-    sound = b.sound;
-    items = b.items;
-    entries = b.entries;
-    given_up = b.given_up;
-    callers = b.callers;
-    pairs = b.pairs;
-    front = past;
-    owing = b.owing;
-    room = b.room;
     fits = b.fits;
   }
 

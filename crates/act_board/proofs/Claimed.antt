@@ -1,5 +1,5 @@
 -- What may be claimed of a board, and what it keeps after a claim and after what comes back.
-use Rattle.std.proofs.Common.{◌≡◌, ℕ, zero, suc, ◌+◌, ◌-◌, ◌<◌, ◌≤◌, cond, not, Bool, true, false, List, [], ◌∷◌, ◌++◌, length, Option, Some, None, inl, inr, refl, sym, ap, subst, ◌∙◌, arith, sum_by, slice_index_or}
+use Rattle.std.proofs.Common.{◌≡◌, ℕ, zero, suc, ◌+◌, ◌-◌, ◌<◌, ◌≤◌, cond, not, Bool, true, false, List, [], ◌∷◌, ◌++◌, length, Option, Some, None, inl, inr, refl, sym, ap, subst, ◌∙◌, arith, sum_by}
 use Rattle.std.specs.Arc.{arc_value}
 use Rattle.std.specs.List.{Contains, list_all, slice_get}
 use Rattle.std.proofs.lemmas.Bool.{and_parts, cases_Bool, cases_lt, cases_order}
@@ -7,13 +7,12 @@ use Rattle.std.proofs.lemmas.List.{length_push}
 use Rattle.std.proofs.lemmas.Option.{get_or_from_slice_get, same_Some, slice_get-get_or, slice_get_within}
 use Rattle.act_model.specs.declared.journal.Item.{Item}
 use Rattle.act_model.specs.declared.observed.Obs.{Obs}
-use Rattle.act_portfolio.specs.Reading.{Accepted}
 use Rattle.act_refs.specs.Path.{IsChild}
 use Rattle.act_refs.proofs.Depths.{place}
 use Rattle.act_refs.proofs.Ordering.{order_of-reference}
 use Rattle.act_board.specs.Calls.{HasEnded}
 use Rattle.act_board.specs.History.{History, IsWanted, and_then, has_left, has_result, is_claimed, is_give_up, is_given_up, open_asks, version_of, was_claimed}
-use Rattle.act_board.specs.Kept.{ArePairs, HaveResults, IsAt, IsBoard, IsFreeAt, IsPast, IsPut, IsResult, IsUnderWay, Keeps, NoneIsFree, contract_at, is_under_way, is_waiting, owed_for}
+use Rattle.act_board.specs.Kept.{HaveResults, IsAt, IsBoard, IsFreeAt, IsPast, IsPut, IsResult, IsUnderWay, NoneIsFree, contract_at, is_under_way, is_waiting, owed_for}
 use Rattle.act_board.specs.Legal.{IsClaimable, IsLegal, IsNext, NoneIsClaimable}
 use Rattle.act_board.specs.declared.caller.Caller.{Caller}
 use Rattle.act_board.specs.declared.mark.Mark.{Mark}
@@ -148,15 +147,6 @@ module _ (history : History) (capacity : ℕ) (steps : List Item) (book : List O
       let there = claimable-place d w rank.0 is ranked in
       let behind = no-earlier (length pairs) d w there.0 there.1 none is there.2 there.3 there.5 there.6 in
       absurd (omega (arith, behind, slice_get_within pairs there.0 there.1 there.2))
-
-  -- the same, as it is read
-  pub claim-told : (portfolio : Accepted) (read : List Pair) (ranks : List ℕ) (place : ℕ) (pair : Pair) → portfolio ≡ history.portfolio → read ≡ pairs → ranks ≡ history.portfolio.order
-      → ((h : History) → Keeps portfolio read h → IsFreeAt h read place) → ((h : History) → Keeps portfolio read h → NoneIsFree h read front place) → slice_get pairs place ≡ Some pair → gave_up ≡ false
-      → IsNext history (slice_index_or ranks pair.rank 0) pair.version
-  claim-told portfolio read ranks place pair of same ordered free first at going =
-      let keeps : Keeps portfolio read history = (subst (ArePairs history) (sym same) b.pairs, sym of) in
-      subst (λ (d : ℕ). IsNext history d pair.version) (ap (λ (xs : List ℕ). slice_index_or xs pair.rank 0) (sym ordered))
-      (claim-next place pair at going (subst (λ (xs : List Pair). IsFreeAt history xs place) same (free history keeps)) (subst (λ (xs : List Pair). NoneIsFree history xs front place) same (first history keeps)))
 
   -- what is next is a contract, and as many entries stand in the book
   pub next-within : (d w : ℕ) → IsNext history d w → (d < length history.portfolio.contracts.terms) × (w ≤ version_of history)

@@ -38,7 +38,7 @@ done-result history c v (Done run) is at = at.0
 done-result history c v Dropped is at = at.0
 
 -- a dropped pair waits, and is under way, where it did before
-same-waiting : (old new : Pair) → IsDropped old new → is_waiting new.progress ≡ is_waiting old.progress
+pub same-waiting : (old new : Pair) → IsDropped old new → is_waiting new.progress ≡ is_waiting old.progress
 same-waiting old new is = elim is.progress [
   | inl same ↦ ap is_waiting same
   | inr gone ↦ ap is_waiting gone.0 ∙ sym (done-not-waiting old.progress gone.1)

@@ -23,7 +23,7 @@ use Rattle.act_profile.specs.Run.{Contracts, deepest, run_of}
 use Rattle.act_swap.specs.Children.{AreInDayOrder}
 use Rattle.act_board.specs.History.{History, and_then, entries_of, item_of, version_of}
 use Rattle.act_board.specs.Kept.{IsResult}
-use Rattle.act_board.specs.Latest.{AreLatest, IsCached, NoneYet, cached_version, finished_version, is_later, kept_at, kept_for, kept_rows, kept_under}
+use Rattle.act_board.specs.Latest.{AreLatest, IsCached, NoneYet, cached_version, cut_at, cut_for, finished_version, is_later, kept_at, kept_for, kept_rows, kept_under}
 use Rattle.act_board.specs.Tasks.{GoesOnFrom, MayGoOn}
 use Rattle.act_board.specs.declared.latest.Cached.{Cached}
 use Rattle.act_board.specs.declared.latest.Latest.{Latest}
@@ -197,7 +197,7 @@ module _ (history : History) (latest : List (Option Latest)) (are : AreLatest hi
   entries = entries_of history
 
   kept-by : (one : Option Latest) → slice_get latest c ≡ Some one → IsCached contracts entries c v one cached → kept_under cached.run cached.cut ≡ kept_at contracts entries c v (version_in one)
-  kept-by None at is = ap (λ (r : Option (Arc Stream Global)). kept_under r cached.cut) is
+  kept-by None at is = ap (λ (r : Option (Arc Stream Global)). kept_under r cached.cut) is.0
   kept-by (Some one) at is =
       let result = (are.results c one at).1 in
       ap (λ (r : Option (Arc Stream Global)). kept_under r cached.cut) is.1
@@ -217,12 +217,22 @@ module _ (history : History) (latest : List (Option Latest)) (are : AreLatest hi
       let at = slice_get-get_or latest c None within in
       kept-by (slice_index_or latest c None) at is ∙ ap (kept_at contracts entries c v) (are.versions c (slice_index_or latest c None) at)
 
+  cut-by : (one : Option Latest) → IsCached contracts entries c v one cached → cached.cut ≡ cut_at contracts entries c v (version_in one)
+  cut-by None is = is.1
+  cut-by (Some one) is = is.3
+
+  -- under the cut between the two versions
+  pub cut-told : IsCached contracts entries c v (slice_index_or latest c None) cached → cached.cut ≡ cut_for history c v
+  cut-told is =
+      let at = slice_get-get_or latest c None within in
+      cut-by (slice_index_or latest c None) is ∙ ap (cut_at contracts entries c v) (are.versions c (slice_index_or latest c None) at)
+
   module _ (linked : IsLinked contracts) (depth : IsWithinDepth deepest contracts c) where
     abbrev wanted : Stream
     wanted = run_of contracts (take v entries) c
 
     goes-by : (one : Option Latest) → slice_get latest c ≡ Some one → IsCached contracts entries c v one cached → MayGoOn wanted cached.run cached.cut
-    goes-by None at is = subst (λ (r : Option (Arc Stream Global)). MayGoOn wanted r cached.cut) (sym is) tt
+    goes-by None at is = subst (λ (r : Option (Arc Stream Global)). MayGoOn wanted r cached.cut) (sym is.0) tt
     goes-by (Some one) at is =
         let result = (are.results c one at).1 in
         let here : kept_of (arc_value is.0) cached.cut ≡ kept_of (run_of contracts (take one.version entries) c) cached.cut = ap (λ (s : Stream). kept_of s cached.cut) (is.2 ∙ result.0) in

@@ -6,6 +6,7 @@ pub mod Callers
 pub mod Claimed
 pub mod Dropped
 pub mod Extended
+pub mod Freed
 pub mod Going
 pub mod LatestRuns
 pub mod Marking
@@ -16,5 +17,7 @@ pub mod Pairs
 pub mod Places
 pub mod Quotas
 pub mod Reaching
+pub mod Readiness
+pub mod Referring
 pub mod Told
 pub mod Worked

@@ -7,7 +7,7 @@ use Rattle.std.proofs.lemmas.Bool.{cases_Bool}
 use Rattle.std.proofs.lemmas.List.{get_or_default}
 use Rattle.std.proofs.lemmas.Option.{get_or_from_slice_get, slice_get_within}
 use Rattle.act_portfolio.specs.Reading.{Accepted}
-use Rattle.act_refs.specs.Path.{IsChild, children_of}
+use Rattle.act_refs.specs.Path.{IsChild}
 use Rattle.act_board.specs.History.{History, IsWanted, has_result}
 use Rattle.act_board.specs.Kept.{AreSorted, IsAt, IsListed, IsResult, IsThere, Keeps, contract_at, is_done, is_kept}
 use Rattle.act_board.specs.declared.pair.Pair.{Pair}
@@ -73,22 +73,6 @@ module _ (portfolio : Accepted) (pairs : List Pair) (history : History) (keeps :
         listed.3,
         kept-so history c v d listed.0.progress (at-of listed.1.0 r c v listed.0 listed.1.1 listed.2 listed.3 ranked) wanted (result-is listed.1.0 r c v listed.0 listed.1.1 listed.2 listed.3 ranked ∙ is),
       )
-
--- the children of a contract, by the portfolio's own list
-pub child-listed : (portfolio : Accepted) (history : History) (c child : ℕ) (children : List ℕ) → history.portfolio ≡ portfolio → slice_get portfolio.contracts.children c ≡ Some children
-    → IsChild history.portfolio.contracts.children c child → (k : ℕ) × (k < length children) × (get_or children k 0 ≡ child)
-child-listed portfolio history c child children of refers is =
-    let list : children_of history.portfolio.contracts.children c ≡ children =
-    ap (λ (p : Accepted). children_of p.contracts.children c) of ∙ get_or_from_slice_get portfolio.contracts.children c children [] refers in
-    let there : Contains children child = subst (λ (xs : List ℕ). Contains xs child) list is in
-    (there.0, there.1, get_or_default children there.0 0 child there.1 ∙ there.2)
-
-pub listed-child : (portfolio : Accepted) (history : History) (c k : ℕ) (children : List ℕ) → history.portfolio ≡ portfolio → slice_get portfolio.contracts.children c ≡ Some children
-    → k < length children → IsChild history.portfolio.contracts.children c (get_or children k 0)
-listed-child portfolio history c k children of refers within =
-    let list : children_of history.portfolio.contracts.children c ≡ children =
-    ap (λ (p : Accepted). children_of p.contracts.children c) of ∙ get_or_from_slice_get portfolio.contracts.children c children [] refers in
-    subst (λ (xs : List ℕ). Contains xs (get_or children k 0)) (sym list) (k, within, get_or_default children k (get_or children k 0) 0 within)
 
 pub listed-in : (graph : List (List ℕ)) (c k : ℕ) (children : List ℕ) → slice_get graph c ≡ Some children → k < length children → IsChild graph c (get_or children k 0)
 listed-in graph c k children refers within =

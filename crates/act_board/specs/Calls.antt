@@ -3,7 +3,7 @@ use Rattle.std.specs.Prelude.{◌≡◌, ◌≤◌, ℕ, if◌then◌else◌, tr
 use Rattle.act_model.specs.declared.asks.Asking.{Asking}
 use Rattle.act_profile.specs.Answers.{answer_to}
 use Rattle.act_board.specs.History.{History, IsWanted, and_then, entries_of, has_left, has_result, is_claimed, is_given_up}
-use Rattle.act_board.specs.Latest.{kept_for}
+use Rattle.act_board.specs.Latest.{cut_for, kept_for}
 use Rattle.act_board.specs.Legal.{IsNext, IsOldest, IsReady, NoneIsClaimable}
 use Rattle.act_board.specs.Work.{Work, version}
 use Rattle.act_board.specs.declared.mark.Mark.TheVariants as mark
@@ -24,12 +24,13 @@ pub record HasEnded (history : History) : Type 0 where
   pub left : (i : ℕ) → 1 ≤ i → i ≤ length history.quotas → has_left history i ≡ true
   pub done : (c v : ℕ) → IsWanted history c v → has_result history c v ≡ true
 
--- what is claimed, with the rows that its evaluation keeps of the contract's latest result, or why nothing is
+-- what is claimed, with the rows that its evaluation keeps of the run at the contract's cached version and the cut between the two versions, or why nothing is
 abbrev pub Claims : History → Claim → History → Type 0
 Claims history (claim.Task work) after =
     (is_given_up history ≡ false) × IsOf history work × IsNext history work.contract (version work)
     × (after ≡ and_then history (mark.Claim work.contract (version work)))
     × (work.kept ≡ kept_for history work.contract (version work))
+    × (work.cut ≡ cut_for history work.contract (version work))
 Claims history claim.Idle after = (is_given_up history ≡ false) × NoneIsClaimable history × ¬ (HasEnded history) × (after ≡ history)
 Claims history claim.Ended after = (is_given_up history ≡ false) × HasEnded history × (after ≡ history)
 Claims history claim.GivenUp after = (is_given_up history ≡ true) × (after ≡ history)

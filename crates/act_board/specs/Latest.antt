@@ -32,18 +32,30 @@ cached_version history c = reduce max (filter_map (finished_version c) history.m
 abbrev pub nothing_kept : KeptRows
 nothing_kept = record { rows = []; close = None }
 
--- what a contract's evaluation at version v keeps of its run at version u: what there is before the cut from the smaller to the greater of the two
+-- the cut between two versions: from the smaller to the greater
+abbrev pub cut_between : Contracts → List Obs → ℕ → ℕ → ℕ → Option ℤ
+cut_between contracts entries c u v = cut_of contracts c entries (min u v) (max u v)
+
+-- what a contract's evaluation at version v keeps of its run at version u: what there is before the cut between the two
 abbrev pub kept_between : Contracts → List Obs → ℕ → ℕ → ℕ → KeptRows
-kept_between contracts entries c u v = kept_of (run_of contracts (take u entries) c) (cut_of contracts c entries (min u v) (max u v))
+kept_between contracts entries c u v = kept_of (run_of contracts (take u entries) c) (cut_between contracts entries c u v)
 
 -- the same of the run at the cached version, where there is one
 abbrev pub kept_at : Contracts → List Obs → ℕ → ℕ → Option ℕ → KeptRows
 kept_at contracts entries c v None = nothing_kept
 kept_at contracts entries c v (Some u) = kept_between contracts entries c u v
 
--- the rows that the evaluation of a contract at a version keeps
+-- the cut from the cached version, where there is one
+abbrev pub cut_at : Contracts → List Obs → ℕ → ℕ → Option ℕ → Option ℤ
+cut_at contracts entries c v None = None
+cut_at contracts entries c v (Some u) = cut_between contracts entries c u v
+
+-- the rows that the evaluation of a contract at a version keeps, and the cut under which it does
 abbrev pub kept_for : History → ℕ → ℕ → KeptRows
 kept_for history c v = kept_at history.portfolio.contracts (entries_of history) c v (cached_version history c)
+
+abbrev pub cut_for : History → ℕ → ℕ → Option ℤ
+cut_for history c v = cut_at history.portfolio.contracts (entries_of history) c v (cached_version history c)
 
 -- ---- what the board has of it
 
@@ -75,8 +87,8 @@ kept_rows cached = kept_under cached.run cached.cut
 
 -- it is the latest result of a contract, with the cut from the smaller to the greater of its version and another
 abbrev pub IsCached : Contracts → List Obs → ℕ → ℕ → Option Latest → Cached → Type 0
-IsCached contracts entries c v None cached = cached.run ≡ None
+IsCached contracts entries c v None cached = (cached.run ≡ None) × (cached.cut ≡ None)
 IsCached contracts entries c v (Some one) cached =
     (run : Arc Stream Global) × (cached.run ≡ Some run) × (arc_value run ≡ arc_value one.run)
-    × (cached.cut ≡ cut_of contracts c entries (min one.version v) (max one.version v))
+    × (cached.cut ≡ cut_between contracts entries c one.version v)
     × ((day : ℤ) → cached.cut ≡ Some day → day ≤ℤ last_day)

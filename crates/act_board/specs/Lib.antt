@@ -6,6 +6,7 @@ pub mod Kept
 pub mod Latest
 pub mod Legal
 pub mod Reached
+pub mod Ready
 pub mod Tasks
 pub mod Wanting
 pub mod Work

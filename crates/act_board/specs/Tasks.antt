@@ -4,13 +4,20 @@ use Rattle.std.specs.Arc.{arc_value}
 use Rattle.std.specs.declared.alloc.Global.{Global}
 use Rattle.std.specs.declared.sync.Arc.{Arc}
 use Rattle.act_model.specs.Run.{Stream}
+use Rattle.act_model.specs.declared.observed.Obs.{Obs}
+use Rattle.act_portfolio.specs.Reading.{Accepted}
 use Rattle.act_profile.specs.Kept.{kept_of}
 use Rattle.act_profile.specs.Run.{run_of}
 use Rattle.act_refs.specs.Ordered.{order_of}
 use Rattle.act_refs.specs.Path.{children_of}
 use Rattle.act_swap.specs.Children.{AreInDayOrder, RunsAreInDayOrder}
+use Rattle.act_board.specs.Latest.{kept_rows}
 use Rattle.act_board.specs.Work.{Work, outcome, version}
 use Rattle.act_board.specs.declared.latest.Cached.{Cached}
+
+-- the work of a contract of a portfolio over entries, which goes on from what is cached
+abbrev pub work_over : Accepted → ℕ → List Obs → Cached → Work
+work_over portfolio contract entries cached = record { portfolio = portfolio; contract = contract; entries = entries; kept = kept_rows cached; cut = cached.cut }
 
 -- these are the runs of the contract's children
 abbrev pub AreRunsBelow : Work → List Stream → Type 0

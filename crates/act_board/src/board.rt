@@ -4,12 +4,14 @@ use crate::caller::{
     Caller, MOST_ASKS, MOST_CALLERS, MOST_OPEN, all_left, callers_of, close_oldest, oldest,
     open_ask, set_left, spend,
 };
-use crate::claiming::{are_ready, children_results, first_waiting, next_claimable, results_of};
+use crate::claiming::{are_ready, children_results, first_waiting, results_of};
 use crate::dropping::drop_runs;
 use crate::latest::{Latest, cached_for, none_yet, put_latest};
 use crate::mark::Mark;
 use crate::outcome::{AppendFault, AskFault, Claim, Collected};
 use crate::pair::{Pair, Progress, is_claimed, put_progress};
+use crate::ready::{Ready, fill, make_room_for_pairs, nothing_ready, settle};
+use crate::refer::parents_of;
 use crate::room::{append_entry, make_room, make_room_for_step, put_ask, put_entry, put_mark};
 use crate::wanting::{numbers, want_all};
 use crate::work::{Done, Task};
@@ -35,6 +37,10 @@ pub struct Board {
     callers: Vec<Caller>,
     /// Each contract that was wanted, at each version, by version and then by rank.
     pairs: Vec<Pair>,
+    /// Which of the pairs may be claimed, and what the others wait for.
+    ready: Ready,
+    /// For each contract those that refer to it.
+    parents: Vec<Vec<u32>>,
     /// Of each contract the result at the greatest version, where it has one.
     latest: Vec<Option<Latest>>,
     /// No pair before this place is waiting.
@@ -53,13 +59,15 @@ impl Model for Board {
     ghost use Rattle.act_board.specs.History.{History};
     ghost use Rattle.act_board.specs.Kept.{IsBoard};
     ghost use Rattle.act_board.specs.Latest.{AreLatest};
+    ghost use Rattle.act_board.specs.Ready.{IsReady};
 
     ghost Value = { History };
 
     ghost view = { λ b. record { portfolio = arc_value b.portfolio; quotas = b.quotas.items; marks = b.marks.items } };
 
     ghost invariant = { λ b. IsBoard (record { portfolio = arc_value b.portfolio; quotas = b.quotas.items; marks = b.marks.items }) (vec_capacity b.marks) b.items.items b.book b.callers.items b.pairs.items b.front b.owing b.given_up
-        × AreLatest (record { portfolio = arc_value b.portfolio; quotas = b.quotas.items; marks = b.marks.items }) b.latest.items };
+        × AreLatest (record { portfolio = arc_value b.portfolio; quotas = b.quotas.items; marks = b.marks.items }) b.latest.items
+        × IsReady (record { portfolio = arc_value b.portfolio; quotas = b.quotas.items; marks = b.marks.items }) b.pairs.items b.ready.lacking.items b.ready.places.items (vec_capacity b.ready.places) b.parents.items };
 }
 
 impl Board {
@@ -70,7 +78,7 @@ impl Board {
     ghost use Rattle.act_model.specs.declared.journal.Step.TheVariants as step;
     ghost use Rattle.act_board.specs.Calls.{Claims, Collects, IsOf, after_finish, after_give_up};
     ghost use Rattle.act_board.specs.History.{IsPresent, and_then, asks_by, is_given_up, journal_of, open_asks, version_of};
-    ghost use Rattle.act_board.specs.Latest.{kept_for};
+    ghost use Rattle.act_board.specs.Latest.{cut_for, kept_for};
     ghost use Rattle.act_board.specs.Legal.{HasQuota, IsFull, IsLegal, IsNext, IsSound};
     ghost use Rattle.act_board.specs.Work as evaluation;
     ghost use Rattle.act_board.specs.declared.mark.Mark.TheVariants as mark;
@@ -97,6 +105,7 @@ impl Board {
         let callers = callers_of(alloc, quotas)?;
         let quotas = Vec::from_slice(alloc, quotas)?;
         let latest = none_yet(alloc, portfolio.terms().len())?;
+        let parents = parents_of(alloc, &portfolio)?;
         Ok(Board {
             portfolio,
             quotas,
@@ -105,6 +114,8 @@ impl Board {
             book: Book::new(alloc),
             callers,
             pairs: Vec::new(alloc),
+            ready: nothing_ready(alloc),
+            parents,
             latest,
             front: 0,
             dropped: 0,
@@ -221,6 +232,7 @@ impl Board {
         let below = below(*self.items.allocator(), &self.portfolio, first, end)?;
         make_room_for_step(&mut self.marks, &mut self.items, self.owing, 2)?;
         self.pairs.reserve(self.portfolio.order().len())?;
+        make_room_for_pairs(&mut self.ready, self.pairs.capacity())?;
         let number = open_ask(&mut self.callers, caller, version, asked)?;
         let start = want_all(
             &mut self.pairs,
@@ -231,6 +243,13 @@ impl Board {
             end,
         );
         self.front = self.front.min(start);
+        fill(
+            &mut self.ready,
+            &self.portfolio,
+            &self.pairs,
+            start,
+            self.front,
+        );
         self.owing += 1;
         put_ask(&mut self.marks, &mut self.items, caller, asked);
         Ok(number)
@@ -238,8 +257,9 @@ impl Board {
 
     /// Hands out the evaluation that is next: of those that an open ask asks for or reaches, that have no result and aren't
     /// claimed, and whose children have results, the one of the least version, and among these of the least place in the
-    /// portfolio's order. It keeps what the contract's latest result, at an older or a newer version, has before the cut between
-    /// the two versions. Memory can run out only where there is one.
+    /// portfolio's order. It keeps, of the contract's run at the greatest version with a result, the rows before the cut between
+    /// the two versions, and all where there is no cut or the run stops before it. Memory can run out only where there is an
+    /// evaluation to hand out.
     pub fn claim(&mut self) -> Result<Claim, NoMemory>
         ensures claimed { IfOk result (λ claim. Claims self.old claim self.new) }
         ensures memory { IfErr result (λ _. (contract : ℕ) × (version : ℕ) × IsLegal self.old (mark.Claim contract version)) }
@@ -250,9 +270,9 @@ impl Board {
         }
         let left = all_left(&self.callers);
         self.front = first_waiting(&self.pairs, self.front);
-        match next_claimable(&self.portfolio, &self.pairs, self.front) {
+        match self.ready.places.last() {
             Some(place) => {
-                let pair = &self.pairs[place];
+                let pair = &self.pairs[*place];
                 let version = pair.version;
                 let contract = self.portfolio.order()[pair.rank as usize];
                 let task = self.hand_out(contract, version)?;
@@ -271,6 +291,7 @@ impl Board {
         ensures contract { IfOk result (λ work. work.contract ≡ contract) }
         ensures version { IfOk result (λ work. evaluation.version work ≡ version) }
         ensures kept { IfOk result (λ work. work.kept ≡ kept_for self.old contract version) }
+        ensures cut { IfOk result (λ work. work.cut ≡ cut_for self.old contract version) }
         ensures claimed { IfOk result (λ _. self.new ≡ and_then self.old (mark.Claim contract version)) }
         ensures unchanged { IfErr result (λ _. self.new ≡ self.old) }
     {
@@ -289,6 +310,7 @@ impl Board {
         let task = Task::new(&self.portfolio, contract, seen, children, cached);
         let rank = self.portfolio.rank(contract);
         put_progress(&mut self.pairs, version, rank, Progress::Claimed);
+        let _ = self.ready.places.pop();
         self.owing += 1;
         put_mark(&mut self.marks, &Mark::claim(contract, version));
         Ok(task)
@@ -308,6 +330,13 @@ impl Board {
             return;
         }
         put_progress(&mut self.pairs, version, rank, Progress::Done(run));
+        settle(
+            &mut self.ready,
+            &self.portfolio,
+            &self.pairs,
+            &self.parents[contract as usize],
+            version,
+        );
         put_latest(&mut self.latest, contract, version, latest);
         self.owing -= 1;
         put_mark(&mut self.marks, &Mark::finish(contract, version));

@@ -38,43 +38,6 @@ pub(crate) fn has_result(portfolio: &Portfolio, pairs: &[Pair], contract: u32, v
     }
 }
 
-/// Whether the children of a contract have results at a version.
-fn have_results(portfolio: &Portfolio, pairs: &[Pair], contract: u32, version: u64) -> bool
-    requires contract { contract < length portfolio.now.contracts.terms }
-    requires sorted { AreSorted pairs.now }
-    ensures yes { result ≡ true → (history : History) → Keeps portfolio.now pairs.now history → HaveResults history contract version }
-    ensures no { result ≡ false → (history : History) → Keeps portfolio.now pairs.now history → LacksResult history contract version }
-{
-    let children = portfolio.children(contract);
-    for child in children {
-        if !has_result(portfolio, pairs, *child, version) {
-            return false;
-        }
-    }
-    true
-}
-
-/// The place of the first pair, from a place on, that waits and whose contract's children have results.
-pub(crate) fn next_claimable(portfolio: &Portfolio, pairs: &[Pair], front: usize) -> Option<usize>
-    requires sorted { AreSorted pairs.now }
-    requires ranks { (k : ℕ) (pair : Pair) → slice_get pairs.now k ≡ Some pair → pair.rank < length portfolio.now.order }
-    ensures within { IfSome result (λ place. place < length pairs.now) }
-    ensures free { IfSome result (λ place. (history : History) → Keeps portfolio.now pairs.now history → IsFreeAt history pairs.now place) }
-    ensures first { IfSome result (λ place. (history : History) → Keeps portfolio.now pairs.now history → NoneIsFree history pairs.now front place) }
-    ensures none { result ≡ None → (history : History) → Keeps portfolio.now pairs.now history → NoneIsFree history pairs.now front (length pairs.now) }
-{
-    let order = portfolio.order();
-    for place in front..pairs.len() {
-        let pair = &pairs[place];
-        if is_waiting(&pair.progress)
-            && have_results(portfolio, pairs, order[pair.rank as usize], pair.version)
-        {
-            return Some(place);
-        }
-    }
-    None
-}
-
 /// The result of a contract at a version.
 fn result_of(
     portfolio: &Portfolio,

@@ -1,4 +1,4 @@
-//! The latest result of each contract, and what its evaluation at another version goes on from.
+//! The latest result of each contract, the one at the greatest version, and what its evaluation at another version goes on from.
 ghost use Rattle.std.specs.Prelude.{◌≡◌, ◌≤◌, ◌<◌, false, length, max, min, slice_index_or, slice_set, Some, None, take, true, ◌≤ℤ◌, IfOk, IfSome};
 ghost use Rattle.std.specs.Arc.{arc_value};
 ghost use Rattle.std.specs.List.{slice_get};
@@ -19,7 +19,7 @@ use act_portfolio::Portfolio;
 use std::alloc::Global;
 use std::sync::Arc;
 
-/// The latest result of a contract.
+/// The latest result of a contract: that at the greatest version.
 #[derive(Drop)]
 pub(crate) struct Latest {
     /// Over how many entries of the book it was evaluated.

@@ -12,6 +12,8 @@ mod latest;
 mod mark;
 mod outcome;
 mod pair;
+mod ready;
+mod refer;
 mod room;
 mod wanting;
 mod work;

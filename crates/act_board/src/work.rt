@@ -29,15 +29,14 @@ pub struct Task {
 impl Model for Task {
     ghost use Rattle.std.specs.Prelude.{map};
     ghost use Rattle.std.specs.Arc.{arc_value};
-    ghost use Rattle.act_board.specs.Latest.{kept_rows};
-    ghost use Rattle.act_board.specs.Tasks.{IsTask};
+    ghost use Rattle.act_board.specs.Tasks.{IsTask, work_over};
     ghost use Rattle.act_board.specs.Work.{Work};
 
     ghost Value = { Work };
 
-    ghost view = { λ t. record { portfolio = t.of.value; contract = t.contract; entries = t.seen; kept = kept_rows t.cached } };
+    ghost view = { λ t. work_over t.of.value t.contract t.seen t.cached };
 
-    ghost invariant = { λ t. IsTask (record { portfolio = t.of.value; contract = t.contract; entries = t.seen; kept = kept_rows t.cached }) t.version (map arc_value t.children.items) t.cached };
+    ghost invariant = { λ t. IsTask (work_over t.of.value t.contract t.seen t.cached) t.version (map arc_value t.children.items) t.cached };
 }
 
 impl Task {
@@ -46,8 +45,7 @@ impl Task {
     ghost use Rattle.act_profile.specs.Kept.{kept_of};
     ghost use Rattle.act_refs.specs.Ordered.{order_of};
     ghost use Rattle.act_swap.specs.Children.{AreInDayOrder};
-    ghost use Rattle.act_board.specs.Latest as latest;
-    ghost use Rattle.act_board.specs.Tasks.{AreRunsBelow, GoesOnFrom, MayGoOn};
+    ghost use Rattle.act_board.specs.Tasks.{AreRunsBelow, GoesOnFrom, MayGoOn, work_over};
     ghost use Rattle.act_board.specs.Work.{outcome, version};
 
     /// The task of a contract over entries, with its children's runs and what it goes on from.
@@ -61,9 +59,9 @@ impl Task {
         requires contract { contract < length portfolio.now.contracts.terms }
         requires ordered { order_of portfolio.now.contracts.children ≡ Ok portfolio.now.order }
         requires count { length portfolio.now.contracts.children ≡ length portfolio.now.contracts.terms }
-        requires children { AreRunsBelow (record { portfolio = portfolio.now; contract = contract; entries = seen; kept = latest.kept_rows cached }) (map arc_value children.items) }
-        requires kept { MayGoOn (outcome (record { portfolio = portfolio.now; contract = contract; entries = seen; kept = latest.kept_rows cached })) cached.run cached.cut }
-        ensures { result ≡ record { portfolio = portfolio.now; contract = contract; entries = seen; kept = latest.kept_rows cached } }
+        requires children { AreRunsBelow (work_over portfolio.now contract seen cached) (map arc_value children.items) }
+        requires kept { MayGoOn (outcome (work_over portfolio.now contract seen cached)) cached.run cached.cut }
+        ensures { result ≡ work_over portfolio.now contract seen cached }
     {
         Task {
             contract,
@@ -89,8 +87,8 @@ impl Task {
         self.version
     }
 
-    /// Makes the evaluation: the contract's run as from inception, children first. Rows that are kept of the contract's latest
-    /// result are taken as they are, and where all of it is kept, it is shared: it ticks once for each row that wasn't kept.
+    /// Makes the evaluation: the contract's run as from inception, children first. It ticks once for each row that wasn't kept of
+    /// the contract's latest result. Where all of that is kept it isn't copied.
     /// For want of memory the task comes back as it was; `steps` may have ticked by then.
     pub fn work<L: Ledger>(
         self,
@@ -239,15 +237,14 @@ pub struct Done {
 
 impl Model for Done {
     ghost use Rattle.std.specs.Arc.{arc_value};
-    ghost use Rattle.act_board.specs.Latest.{kept_rows};
-    ghost use Rattle.act_board.specs.Tasks.{IsDone};
+    ghost use Rattle.act_board.specs.Tasks.{IsDone, work_over};
     ghost use Rattle.act_board.specs.Work.{Work};
 
     ghost Value = { Work };
 
-    ghost view = { λ d. record { portfolio = d.of.value; contract = d.contract; entries = d.over.value; kept = kept_rows d.kept.value } };
+    ghost view = { λ d. work_over d.of.value d.contract d.over.value d.kept.value };
 
-    ghost invariant = { λ d. IsDone (record { portfolio = d.of.value; contract = d.contract; entries = d.over.value; kept = kept_rows d.kept.value }) d.version (arc_value d.run) (arc_value d.latest) d.fresh };
+    ghost invariant = { λ d. IsDone (work_over d.of.value d.contract d.over.value d.kept.value) d.version (arc_value d.run) (arc_value d.latest) d.fresh };
 }
 
 impl Done {

@@ -140,7 +140,7 @@ fn last_state(rows: &Rows, day: Day) -> Option<State>
     'rows: while left > 0 {
         left -= 1;
         let row = rows.row(left);
-        if is_until(row, day) {
+        if is_until(&row, day) {
             return Some(row.state);
         }
     }

@@ -1,52 +1,56 @@
 -- The rows of a run in chunks.
-use Rattle.std.proofs.Common.{◌≡◌, ℕ, zero, suc, ◌+◌, ◌-◌, ◌*◌, ◌/◌, ◌<◌, ◌≤◌, min, List, [], ◌∷◌, ◌++◌, Vec, length, take, drop, slice_get, ◌⊎◌, inl, inr, refl, sym, ap, subst, ◌∙◌, arith}
+use Rattle.std.proofs.Common.{◌≡◌, ℕ, zero, suc, ◌+◌, ◌-◌, ◌*◌, ◌/◌, ◌<◌, ◌≤◌, min, List, [], ◌∷◌, ◌++◌, length, take, drop, slice_get, ◌⊎◌, inl, inr, refl, sym, ap, ◌∙◌, arith}
 use Rattle.std.proofs.Math.Seq.{drop-append-add, take-append-add}
 use Rattle.std.proofs.lemmas.List.{append-nil, append_assoc, length-append, length-take-le, take-append-drop, take-append-le}
 use Rattle.std.proofs.lemmas.List.Elements.{All-head, All-tail}
 use Rattle.std.specs.List.{All}
-use Rattle.std.specs.declared.alloc.Global.{Global}
 use Rattle.act_model.proofs.Lists.{get_back, get_front, take_parts}
 use Rattle.act_model.specs.Rows.{AreChunks, next_rows, rows_of}
 use Rattle.act_model.specs.declared.run.Row.{Row}
 
 -- it has as many rows as a chunk holds
-abbrev pub is_full : Vec Row Global → Type 0
-is_full chunk = length chunk.items ≡ 64
+abbrev pub is_full : List Row → Type 0
+is_full chunk = length chunk ≡ 64
+
+-- some element of a list that has one
+pub some_of : {A : Type 0} (xs : List A) (k : ℕ) → k < length xs → A
+some_of [] k within = absurd (omega (arith, within))
+some_of (x ∷ xs) k within = x
 
 -- how many rows full chunks have
-pub length_full : (chunks : List (Vec Row Global)) → All is_full chunks → length (rows_of chunks) ≡ 64 * length chunks
+pub length_full : (chunks : List (List Row)) → All is_full chunks → length (rows_of chunks) ≡ 64 * length chunks
 length_full [] full = refl
 length_full (chunk ∷ chunks) full =
-    omega (arith, length-append chunk.items (rows_of chunks), All-head is_full chunk chunks full, length_full chunks (All-tail is_full chunk chunks full))
+    omega (arith, length-append chunk (rows_of chunks), All-head is_full chunk chunks full, length_full chunks (All-tail is_full chunk chunks full))
 
 -- the first rows, as many as some full chunks have
-pub take_chunks : (chunks : List (Vec Row Global)) (last : List Row) (k : ℕ) → All is_full chunks → k ≤ length chunks → take (64 * k) (rows_of chunks ++ last) ≡ rows_of (take k chunks)
+pub take_chunks : (chunks : List (List Row)) (last : List Row) (k : ℕ) → All is_full chunks → k ≤ length chunks → take (64 * k) (rows_of chunks ++ last) ≡ rows_of (take k chunks)
 take_chunks chunks last zero full within = refl
 take_chunks [] last (suc k) full within = absurd (omega (arith, within))
 take_chunks (chunk ∷ chunks) last (suc k) full within =
     let long = All-head is_full chunk chunks full in
-    ap (take (64 * suc k)) (append_assoc chunk.items (rows_of chunks) last)
-    ∙ ap (λ n. take n (chunk.items ++ (rows_of chunks ++ last))) (omega (arith, long))
-    ∙ take-append-add chunk.items (rows_of chunks ++ last) (64 * k)
-    ∙ ap (λ more. chunk.items ++ more) (take_chunks chunks last k (All-tail is_full chunk chunks full) (omega arith))
+    ap (take (64 * suc k)) (append_assoc chunk (rows_of chunks) last)
+    ∙ ap (λ n. take n (chunk ++ (rows_of chunks ++ last))) (omega (arith, long))
+    ∙ take-append-add chunk (rows_of chunks ++ last) (64 * k)
+    ∙ ap (λ more. chunk ++ more) (take_chunks chunks last k (All-tail is_full chunk chunks full) (omega arith))
 
 -- the rows behind them begin with those of the next chunk
-pub drop_chunks : (chunks : List (Vec Row Global)) (last : List Row) (k : ℕ) → All is_full chunks → k ≤ length chunks → (more : List Row) × (drop (64 * k) (rows_of chunks ++ last) ≡ next_rows (slice_get chunks k) last ++ more)
+pub drop_chunks : (chunks : List (List Row)) (last : List Row) (k : ℕ) → All is_full chunks → k ≤ length chunks → (more : List Row) × (drop (64 * k) (rows_of chunks ++ last) ≡ next_rows (slice_get chunks k) last ++ more)
 drop_chunks [] last zero full within = ([], sym (append-nil last))
 drop_chunks [] last (suc k) full within = absurd (omega (arith, within))
-drop_chunks (chunk ∷ chunks) last zero full within = (rows_of chunks ++ last, append_assoc chunk.items (rows_of chunks) last)
+drop_chunks (chunk ∷ chunks) last zero full within = (rows_of chunks ++ last, append_assoc chunk (rows_of chunks) last)
 drop_chunks (chunk ∷ chunks) last (suc k) full within =
     let long = All-head is_full chunk chunks full in
     let rest = drop_chunks chunks last k (All-tail is_full chunk chunks full) (omega arith) in (
       rest.0,
-      ap (drop (64 * suc k)) (append_assoc chunk.items (rows_of chunks) last)
-          ∙ ap (λ n. drop n (chunk.items ++ (rows_of chunks ++ last))) (omega (arith, long))
-          ∙ drop-append-add chunk.items (rows_of chunks ++ last) (64 * k)
+      ap (drop (64 * suc k)) (append_assoc chunk (rows_of chunks) last)
+          ∙ ap (λ n. drop n (chunk ++ (rows_of chunks ++ last))) (omega (arith, long))
+          ∙ drop-append-add chunk (rows_of chunks ++ last) (64 * k)
           ∙ rest.1,
     )
 
 -- how many there are: a chunk's, or the last
-pub next_length : (chunks : List (Vec Row Global)) (last : List Row) (k : ℕ) → All is_full chunks → k ≤ length chunks → ((k < length chunks) × (length (next_rows (slice_get chunks k) last) ≡ 64)) ⊎ ((k ≡ length chunks) × (length (next_rows (slice_get chunks k) last) ≡ length last))
+pub next_length : (chunks : List (List Row)) (last : List Row) (k : ℕ) → All is_full chunks → k ≤ length chunks → ((k < length chunks) × (length (next_rows (slice_get chunks k) last) ≡ 64)) ⊎ ((k ≡ length chunks) × (length (next_rows (slice_get chunks k) last) ≡ length last))
 next_length [] last zero full within = inr (refl, refl)
 next_length [] last (suc k) full within = absurd (omega (arith, within))
 next_length (chunk ∷ chunks) last zero full within = inl (omega arith, All-head is_full chunk chunks full)
@@ -55,7 +59,7 @@ next_length (chunk ∷ chunks) last (suc k) full within = elim (next_length chun
   | inr last ↦ inr (omega (arith, last.0), last.1)
 ]
 
-module _ (full : List (Vec Row Global)) (last : List Row) (are : AreChunks full last) (n k : ℕ) (chunks : k ≡ min (n / 64) (length full)) where
+module _ (full : List (List Row)) (last : List Row) (are : AreChunks full last) (n k : ℕ) (chunks : k ≡ min (n / 64) (length full)) where
   -- a place is behind the chunks before it, and among the rows of the next
   pub behind_chunks : 64 * k ≤ n
   behind_chunks = omega (arith, chunks)

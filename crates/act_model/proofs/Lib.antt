@@ -4,3 +4,4 @@ pub mod Lists
 pub mod NamePlaces
 pub mod LatestRates
 pub mod RatePlaces
+pub mod Slims

@@ -1,14 +1,16 @@
 //! The rows of a run.
-ghost use Rattle.std.specs.Prelude.{◌≡◌, ◌≤◌, ◌<◌, ◌++◌, [], ◌∷◌, Some, length, map, take, slice_get, IfErr, IfOk, OnOk};
+ghost use Rattle.std.specs.Prelude.{◌≡◌, ◌≤◌, ◌<◌, ◌++◌, [], ◌∷◌, Some, length, map, option_map, take, slice_get, IfErr, IfOk, OnOk};
 ghost use Rattle.act_model.specs.Rows.{AreChunks, next_rows, rows_of};
 ghost use Rattle.std.specs.Arc.{arc_value};
+ghost use Rattle.act_model.specs.Run.{cells_of};
 
-use crate::run::Row;
+use crate::chunk::Chunk;
+use crate::run::{Cells, Row};
 use act_num::NoMemory;
 use std::alloc::Global;
 use std::marker::Model;
+use std::mem;
 use std::sync::Arc;
-use std::{mem, slice};
 
 /// How many rows a full chunk has.
 const CHUNK: usize = 64;
@@ -16,13 +18,13 @@ const CHUNK: usize = 64;
 /// How many full chunks there are at most: more than memory holds.
 const MOST_CHUNKS: usize = 1 << 32;
 
-/// The rows of a run, in order. Lists that begin with the same rows share the chunks that these fill.
+/// The rows of a run, in order. A list of another's first rows shares its full chunks.
 #[derive(Drop)]
 pub struct Rows {
     /// Chunks of 64 rows each, which nobody changes.
-    full: Vec<Arc<Vec<Row>, Global>>,
+    full: Vec<Arc<Chunk, Global>>,
     /// The rows behind them, at most 64.
-    last: Vec<Row>,
+    last: Chunk,
 }
 
 impl Model for Rows {
@@ -33,9 +35,9 @@ impl Model for Rows {
 
     ghost Value = { List Row };
 
-    ghost view = { λ r. rows_of (map arc_value r.full.items) ++ r.last.items };
+    ghost view = { λ r. rows_of (map arc_value r.full.items) ++ r.last };
 
-    ghost invariant = { λ r. AreChunks (map arc_value r.full.items) r.last.items };
+    ghost invariant = { λ r. AreChunks (map arc_value r.full.items) r.last };
 }
 
 impl Rows {
@@ -45,7 +47,7 @@ impl Rows {
     {
         Rows {
             full: Vec::new(alloc),
-            last: Vec::new(alloc),
+            last: Chunk::new(alloc),
         }
     }
 
@@ -53,7 +55,7 @@ impl Rows {
     pub fn with_capacity(alloc: Global, count: usize) -> Result<Rows, NoMemory>
         ensures { IfOk result (λ rows. rows ≡ []) }
     {
-        let last = Vec::with_capacity(alloc, count.min(CHUNK))?;
+        let last = Chunk::with_capacity(alloc, count.min(CHUNK))?;
         Ok(Rows {
             full: Vec::new(alloc),
             last,
@@ -67,8 +69,7 @@ impl Rows {
     {
         let chunks = (count / CHUNK).min(self.full.len());
         let full = shared(alloc, &self.full[..chunks])?;
-        let rest = &behind(&self.full, &self.last, chunks)[..count - chunks * CHUNK];
-        let last = rest.to_vec(alloc)?;
+        let last = behind(&self.full, &self.last, chunks).first(alloc, count - chunks * CHUNK)?;
         Ok(Rows { full, last })
     }
 
@@ -77,31 +78,43 @@ impl Rows {
         ensures added { OnOk result (self.new ≡ self.old ++ row.now ∷ []) }
         ensures unchanged { IfErr result (λ _. self.new ≡ self.old) }
     {
-        if self.last.len() == CHUNK {
+        if self.last.count() == CHUNK {
             close_chunk(&mut self.full, &mut self.last)?;
         }
-        Ok(self.last.extend_from_slice(slice::from_ref(row))?)
+        self.last.push(row)
     }
 
     /// How many rows there are.
     pub fn count(&self) -> usize
         ensures { result ≡ length self.now }
     {
-        self.full.len() * CHUNK + self.last.len()
+        self.full.len() * CHUNK + self.last.count()
     }
 
     /// The row at a place, from 0.
-    pub fn row(&self, place: usize) -> &Row
+    #[inline]
+    pub fn row(&self, place: usize) -> Row
         requires { place < length self.now }
-        ensures { slice_get self.now place ≡ Some result.now }
+        ensures { slice_get self.now place ≡ Some result }
     {
         let chunks = (place / CHUNK).min(self.full.len());
-        &behind(&self.full, &self.last, chunks)[place - chunks * CHUNK]
+        behind(&self.full, &self.last, chunks).row(place - chunks * CHUNK)
+    }
+
+    /// What is printed of the row at a place, from 0.
+    #[inline]
+    pub fn cells(&self, place: usize) -> Cells
+        requires { place < length self.now }
+        ensures { option_map cells_of (slice_get self.now place) ≡ Some result }
+    {
+        let chunks = (place / CHUNK).min(self.full.len());
+        behind(&self.full, &self.last, chunks).cells(place - chunks * CHUNK)
     }
 }
 
 /// The rows that stand behind so many full chunks: those of the next one, and else the last.
-fn behind<'a>(full: &'a [Arc<Vec<Row>, Global>], last: &'a [Row], chunks: usize) -> &'a [Row]
+#[inline]
+fn behind<'a>(full: &'a [Arc<Chunk, Global>], last: &'a Chunk, chunks: usize) -> &'a Chunk
     ensures { result.now ≡ next_rows (slice_get (map arc_value full.now) chunks) last.now }
 {
     match full.get(chunks) {
@@ -111,10 +124,7 @@ fn behind<'a>(full: &'a [Arc<Vec<Row>, Global>], last: &'a [Row], chunks: usize)
 }
 
 /// The same chunks once more, shared.
-fn shared(
-    alloc: Global,
-    chunks: &[Arc<Vec<Row>, Global>],
-) -> Result<Vec<Arc<Vec<Row>, Global>>, NoMemory>
+fn shared(alloc: Global, chunks: &[Arc<Chunk, Global>]) -> Result<Vec<Arc<Chunk, Global>>, NoMemory>
     ensures { IfOk result (λ same. map arc_value same.items ≡ map arc_value chunks.now) }
 {
     let mut same = Vec::with_capacity(alloc, chunks.len())?;
@@ -125,19 +135,19 @@ fn shared(
 }
 
 /// Makes the last rows a full chunk. Where memory runs out, they stay.
-fn close_chunk(full: &mut Vec<Arc<Vec<Row>, Global>>, last: &mut Vec<Row>) -> Result<(), NoMemory>
-    requires long { length last.old.items ≡ 64 }
-    requires chunks { AreChunks (map arc_value full.old.items) last.old.items }
-    ensures chunks { AreChunks (map arc_value full.new.items) last.new.items }
-    ensures closed { OnOk result (last.new.items ≡ []) }
-    ensures rows { rows_of (map arc_value full.new.items) ++ last.new.items ≡ rows_of (map arc_value full.old.items) ++ last.old.items }
+fn close_chunk(full: &mut Vec<Arc<Chunk, Global>>, last: &mut Chunk) -> Result<(), NoMemory>
+    requires long { length last.old ≡ 64 }
+    requires chunks { AreChunks (map arc_value full.old.items) last.old }
+    ensures chunks { AreChunks (map arc_value full.new.items) last.new }
+    ensures closed { OnOk result (last.new ≡ []) }
+    ensures rows { rows_of (map arc_value full.new.items) ++ last.new ≡ rows_of (map arc_value full.old.items) ++ last.old }
 {
     if full.len() >= MOST_CHUNKS {
         return Err(NoMemory);
     }
-    let alloc = *last.allocator();
+    let alloc = *full.allocator();
     full.reserve(1)?;
-    let next = Vec::with_capacity(alloc, CHUNK)?;
+    let next = Chunk::with_capacity(alloc, CHUNK)?;
     match Arc::new(alloc, mem::replace(last, next)) {
         Ok(chunk) => {
             let Ok(()) = full.push(chunk) else {

@@ -54,7 +54,7 @@ fn count_before(rows: &Rows, day: Day) -> usize
 {
     let mut left = rows.count();
     'rows: while left > 0 {
-        if is_before(rows.row(left - 1), day) {
+        if is_before(&rows.row(left - 1), day) {
             return left;
         }
         left -= 1;

@@ -16,7 +16,7 @@ use std::alloc::Global;
 use std::sync::Arc;
 use std::sync::ledger::Ledger;
 
-/// The first rows of a list, so many; and where it has none of them, room for so many as are to come.
+/// The first rows of a list, so many. Where these are none, it is a new list with room for `room` rows.
 pub(crate) fn first_rows(
     alloc: Global,
     rows: &Rows,

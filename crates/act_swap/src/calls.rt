@@ -109,8 +109,8 @@ pub fn currency_of(terms: &Terms, children: &[Arc<Run, Global>], event: &Event) 
 }
 
 /// The currency of a child's row, or of an event of the contract itself.
-fn currency_of_row(common: &Common, row: Option<&Row>) -> u32
-    ensures { result ≡ currency_of_row common.now (option_map (λ row. row.now) row.entry) }
+fn currency_of_row(common: &Common, row: Option<Row>) -> u32
+    ensures { result ≡ currency_of_row common.now row }
 {
     match row {
         Some(row) => row.currency,

@@ -3,7 +3,7 @@ ghost use Rattle.std.specs.Prelude.{◌≡◌, map, option_map};
 ghost use Rattle.std.specs.Arc.{arc_value};
 ghost use Rattle.act_profile.specs.Legs.{capfl_amount, capfl_row};
 
-use crate::children::row_at;
+use crate::children::{paid_at, row_at};
 use crate::swaps_table::trade_payment;
 use act_kind::{Payment, Table, passed, signed, trade_payoff};
 use act_model::{Common, Event, Row, Run, Source, State};
@@ -51,9 +51,9 @@ impl<'a> CapTable<'a> {
         let Source::Net { first, second } = source else {
             return None;
         };
-        let underlying = row_at(self.children, UNDERLYING, first)?;
-        let shadow = row_at(self.children, SHADOW, second)?;
-        let change = underlying.payoff.sub(shadow.payoff)?;
+        let underlying = paid_at(self.children, UNDERLYING, first)?;
+        let shadow = paid_at(self.children, SHADOW, second)?;
+        let change = underlying.sub(shadow)?;
         Some(signed(self.common.contract_role, change.abs()))
     }
 }
@@ -96,8 +96,8 @@ impl Table for CapTable<'_> {
 }
 
 /// The row of the underlying that an event is of, or None where there is none.
-pub(crate) fn capfl_row(children: &[Arc<Run, Global>], source: Source) -> Option<&Row>
-    ensures { option_map (λ row. row.now) result ≡ capfl_row (map arc_value children.now) source }
+pub(crate) fn capfl_row(children: &[Arc<Run, Global>], source: Source) -> Option<Row>
+    ensures { result ≡ capfl_row (map arc_value children.now) source }
 {
     match source {
         Source::Net { first, .. } => row_at(children, UNDERLYING, first),

@@ -1,9 +1,10 @@
 //! The runs of a contract's children.
 ghost use Rattle.std.specs.Prelude.{◌≡◌, ◌<◌, ◌^◌, ◌↔◌, IsTrue, map, Some, length, option_map, slice_get};
 ghost use Rattle.std.specs.Arc.{arc_value};
-ghost use Rattle.act_profile.specs.Legs.{child, row_at};
+ghost use Rattle.act_profile.specs.Legs.{child, paid, row_at};
 
 use act_model::{Row, Run};
+use act_num::Fixed;
 use std::alloc::Global;
 use std::marker::Model;
 use std::sync::Arc;
@@ -53,9 +54,9 @@ impl<'a> ChildRun<'a> {
     }
 
     /// The row at a place, from 0.
-    pub(crate) fn row(&self, place: usize) -> &'a Row
+    pub(crate) fn row(&self, place: usize) -> Row
         requires { place < length self.now.rows }
-        ensures { slice_get self.now.rows place ≡ Some result.now }
+        ensures { slice_get self.now.rows place ≡ Some result }
     {
         match self.run {
             Some(run) => run.rows.row(place),
@@ -64,8 +65,8 @@ impl<'a> ChildRun<'a> {
     }
 
     /// The row at a place, or None past the last.
-    fn get(&self, place: usize) -> Option<&'a Row>
-        ensures { option_map (λ row. row.now) result ≡ slice_get self.now.rows place }
+    fn get(&self, place: usize) -> Option<Row>
+        ensures { result ≡ slice_get self.now.rows place }
     {
         if place < self.count() {
             Some(self.row(place))
@@ -76,8 +77,18 @@ impl<'a> ChildRun<'a> {
 }
 
 /// The row of a child at a place, or None where there is none.
-pub(crate) fn row_at(children: &[Arc<Run, Global>], leg: u8, row: u32) -> Option<&Row>
-    ensures { option_map (λ row. row.now) result ≡ row_at (map arc_value children.now) leg row }
+pub(crate) fn row_at(children: &[Arc<Run, Global>], leg: u8, row: u32) -> Option<Row>
+    ensures { result ≡ row_at (map arc_value children.now) leg row }
 {
     ChildRun::of(children, leg as usize).get(row as usize)
+}
+
+/// What the row of a child at a place pays, or None where there is none.
+pub(crate) fn paid_at(children: &[Arc<Run, Global>], leg: u8, row: u32) -> Option<Fixed>
+    ensures { result ≡ paid (row_at (map arc_value children.now) leg row) }
+{
+    match row_at(children, leg, row) {
+        Some(row) => Some(row.payoff),
+        None => None,
+    }
 }

@@ -50,13 +50,13 @@ fn add_pairs(
     let mut from = 0;
     'rows: for place in 0..underlying.count() {
         let row = underlying.row(place);
-        if !is_limited(status_date, capfl, row) {
+        if !is_limited(status_date, capfl, &row) {
             continue;
         }
         let Some(other) = next_limited(shadow, from, status_date, capfl) else {
             return Ok(());
         };
-        events.push(net_event(place as u32, row, other as u32))?;
+        events.push(net_event(place as u32, &row, other as u32))?;
         from = other + 1;
     }
     Ok(())
@@ -69,7 +69,7 @@ fn next_limited(run: &ChildRun<'_>, from: usize, status_date: Day, capfl: &Capfl
     ensures none_left { IfNone result (limited_from status_date capfl.now.maturity_date from run.now ≡ []) }
 {
     'rows: for place in from..run.count() {
-        if is_limited(status_date, capfl, run.row(place)) {
+        if is_limited(status_date, capfl, &run.row(place)) {
             return Some(place);
         }
     }

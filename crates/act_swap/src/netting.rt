@@ -87,10 +87,10 @@ fn add_apart(
 {
     'rows: for place in 0..run.count() {
         let row = run.row(place);
-        if !is_taken(status_date, row) {
+        if !is_taken(status_date, &row) {
             continue;
         }
-        events.push(leg_event(leg, place as u32, row))?;
+        events.push(leg_event(leg, place as u32, &row))?;
     }
     Ok(())
 }
@@ -116,11 +116,11 @@ fn add_netted(
         let row = run.row(place);
         from = first_from(run, from, row.day);
         other_from = first_from(other, other_from, row.day);
-        if !is_taken(status_date, row) {
+        if !is_taken(status_date, &row) {
             continue;
         }
-        let partner = partner_of(row, place, run, from, other, other_from);
-        add_row(events, side, leg, place as u32, row, partner)?;
+        let partner = partner_of(&row, place, run, from, other, other_from);
+        add_row(events, side, leg, place as u32, &row, partner)?;
     }
     Ok(())
 }
@@ -226,7 +226,7 @@ fn count_like(row: &Row, run: &ChildRun<'_>, from: usize, place: usize) -> usize
 {
     let mut count = 0;
     'rows: for earlier in from..place {
-        if is_netted_with(row, run.row(earlier)) {
+        if is_netted_with(row, &run.row(earlier)) {
             count += 1;
         }
     }
@@ -246,7 +246,7 @@ fn nth_like(row: &Row, run: &ChildRun<'_>, from: usize, n: usize) -> Option<usiz
         if row.day < other.day {
             return None;
         }
-        if is_netted_with(row, other) {
+        if is_netted_with(row, &other) {
             if left == 0 {
                 return Some(place);
             }

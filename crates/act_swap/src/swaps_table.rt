@@ -8,7 +8,7 @@ ghost use Rattle.act_profile.specs.Legs.{swaps_amount, swaps_row};
 ghost use Rattle.act_profile.specs.Trade.{trade_line};
 ghost use Rattle.act_swap.specs.Signs.{by_leg};
 
-use crate::children::row_at;
+use crate::children::{paid_at, row_at};
 use crate::netting::{first_leg, second_leg};
 use act_kind::{Payment, Table, opposite, passed, signed, trade_payoff};
 use act_model::{Common, ContractRole, Event, EventType, Row, Run, Source, State, Swaps};
@@ -69,19 +69,19 @@ impl<'a> SwapsTable<'a> {
     fn leg_amount(&self, leg: u8, row: u32) -> Option<Fixed>
         ensures { result ≡ swaps_amount self.now.0 self.now.1 self.now.2 (Source.Leg leg row) }
     {
-        let row = row_at(self.children, leg, row)?;
+        let payoff = paid_at(self.children, leg, row)?;
         let is_first = leg == first_leg(self.swaps);
-        Some(by_leg(self.common.contract_role, is_first, row.payoff))
+        Some(by_leg(self.common.contract_role, is_first, payoff))
     }
 
     /// What two netted rows pay: the first leg's less the second's.
     fn net_amount(&self, first: u32, second: u32) -> Option<Fixed>
         ensures { result ≡ swaps_amount self.now.0 self.now.1 self.now.2 (Source.Net first second) }
     {
-        let first = row_at(self.children, first_leg(self.swaps), first)?;
-        let second = row_at(self.children, second_leg(self.swaps), second)?;
+        let first = paid_at(self.children, first_leg(self.swaps), first)?;
+        let second = paid_at(self.children, second_leg(self.swaps), second)?;
         let role = self.common.contract_role;
-        signed(role, first.payoff).sub(signed(role, second.payoff))
+        signed(role, first).sub(signed(role, second))
     }
 }
 
@@ -123,12 +123,8 @@ impl Table for SwapsTable<'_> {
 }
 
 /// The row of a leg that an event is of, of two the first leg's, or None where there is none.
-pub(crate) fn swaps_row<'a>(
-    swaps: &Swaps,
-    children: &'a [Arc<Run, Global>],
-    source: Source,
-) -> Option<&'a Row>
-    ensures { option_map (λ row. row.now) result ≡ swaps_row swaps.now (map arc_value children.now) source }
+pub(crate) fn swaps_row(swaps: &Swaps, children: &[Arc<Run, Global>], source: Source) -> Option<Row>
+    ensures { result ≡ swaps_row swaps.now (map arc_value children.now) source }
 {
     match source {
         Source::Leg { leg, row } => row_at(children, leg, row),

@@ -350,7 +350,19 @@ const USAGE: &str = "usage: eval P [S] | check P | desk W P S.. | big N W\n";
 #[test]
 fn refuses_other_words(rt: HostRuntime) {
     let texts = [("p", R1), ("s", TWICE)];
-    for command in &["desk 0 p s", "desk 65 p s", "desk 01 p s", "desk 1 p"] {
+    for command in &[
+        "desk 0 p s",
+        "desk 65 p s",
+        "desk 01 p s",
+        "desk 1 p",
+        "big 0 1",
+        "big 1001 1",
+        "big 01 1",
+        "big 1 65",
+        "big 1 +1",
+        "big 1",
+        "big 1 1 p",
+    ] {
         let (ran, out) = run(&rt, rt.alloc(), command, &texts, &NoGate);
         check_end(&rt, command, &ran, 2, out.bytes(), USAGE);
         assert!(rt; ran.board.is_none(), "{command}");
@@ -401,4 +413,26 @@ fn evaluates_two_contracts_at_once(rt: HostRuntime) {
     assert_eq!(rt; gate.entered.load(Ordering::SeqCst), 2);
     assert_eq!(rt; gate.left.load(Ordering::SeqCst), 2);
     check_end(&rt, command, &ran, 0, out.bytes(), TWO_LOANS_TEXT);
+}
+
+/// What is written of the large runs of 1, 3 and 1,000, whose values another program worked out.
+const BIG_1: &str = "big 1\ncontracts 1\nasks 4\nrows 564\nsum 7143814002721\n";
+
+const BIG_3: &str = "big 3\ncontracts 4\nasks 4\nrows 3208\nsum 3021776690041\n";
+
+const BIG_1000: &str = "big 1000\ncontracts 1333\nasks 4\nrows 1068828\nsum 5185465721130972\n";
+
+#[test]
+fn writes_the_totals_of_a_large_run(rt: HostRuntime) {
+    for &(command, wanted) in &[
+        ("big 1 1", BIG_1),
+        ("big 1 4", BIG_1),
+        ("big 3 1", BIG_3),
+        ("big 3 4", BIG_3),
+        ("big 1000 4", BIG_1000),
+    ] {
+        let (ran, out) = run_any(&rt, rt.alloc(), command, &[]);
+        check_end(&rt, command, &ran, 0, out.bytes(), wanted);
+        assert!(rt; ran.board.is_some(), "{command}");
+    }
 }

@@ -7,7 +7,6 @@ use Rattle.std.specs.declared.sync.Arc.{Arc}
 use Rattle.act_model.specs.Names.{NameLists}
 use Rattle.act_model.specs.Run.{Stream}
 use Rattle.act_model.specs.declared.run.Row.{Row}
-use Rattle.act_text.specs.declared.kept.Cells.{Cells}
 use Rattle.act_text.specs.Lines.{row_text}
 
 -- rows, and the names that their lines are written with
@@ -33,18 +32,6 @@ pub record AreLines (names : NameLists) (rows : List Row) (text ends : List ℕ)
 abbrev pub start_at : List ℕ → ℕ → Option ℕ
 start_at ends zero = Some 0
 start_at ends (suc before) = slice_get ends before
-
--- what is printed of a row
-abbrev pub cells_of : Row → Cells
-cells_of row = record {
-  day = row.day;
-  kind = row.kind;
-  currency = row.currency;
-  payoff = row.payoff;
-  notional = row.state.nt;
-  rate = row.state.ipnr;
-  interest = row.state.ipac;
-}
 
 -- rows of which each has the line of the other at its place, whatever the names
 abbrev pub ArePrintedAlike : List Row → List Row → Type 0

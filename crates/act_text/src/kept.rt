@@ -1,14 +1,12 @@
 //! Lines of rows that are kept for when they come again.
-ghost use Rattle.std.specs.Prelude.{◌≡◌, ◌++◌, ◌∷◌, [], ◌≤◌, ◌<◌, length, map, take, true, Some, OnOk, OnErr, slice_get};
+ghost use Rattle.std.specs.Prelude.{◌≡◌, ◌++◌, ◌∷◌, [], ◌≤◌, ◌<◌, length, map, take, Some, OnOk, OnErr, slice_get};
 ghost use Rattle.std.specs.Arc.{arc_value};
-ghost use Rattle.act_model.specs.Names.{NameLists};
-ghost use Rattle.act_text.specs.Kept.{AreLines, ArePrintedAlike, cells_of, start_at};
+ghost use Rattle.act_text.specs.Kept.{AreLines, ArePrintedAlike, start_at};
 ghost use Rattle.act_text.specs.Lines.{row_text};
 
 use crate::row::row_line;
-use act_date::Day;
-use act_model::{EventType, Names, Row, Rows, Run};
-use act_num::{Fixed, NoMemory};
+use act_model::{Names, Row, Rows, Run};
+use act_num::NoMemory;
 use std::alloc::Global;
 use std::marker::Model;
 use std::sync::Arc;
@@ -101,47 +99,11 @@ fn count_alike(one: &Rows, other: &Rows, most: usize) -> usize
 {
     let most = most.min(other.count());
     for place in 0..most {
-        if !are_printed_alike(one.row(place), other.row(place)) {
+        if one.cells(place) != other.cells(place) {
             return place;
         }
     }
     most
-}
-
-/// What is printed of a row.
-#[derive(Clone, Copy, PartialEq, Eq)]
-struct Cells {
-    day: Day,
-    kind: EventType,
-    currency: u32,
-    payoff: Fixed,
-    notional: Fixed,
-    rate: Fixed,
-    interest: Fixed,
-}
-
-impl Cells {
-    /// Those of a row.
-    fn of(row: &Row) -> Cells
-        ensures { result ≡ cells_of row.now }
-    {
-        Cells {
-            day: row.day,
-            kind: row.kind,
-            currency: row.currency,
-            payoff: row.payoff,
-            notional: row.state.nt,
-            rate: row.state.ipnr,
-            interest: row.state.ipac,
-        }
-    }
-}
-
-/// Whether what is printed of two rows is the same.
-fn are_printed_alike(one: &Row, other: &Row) -> bool
-    ensures { result ≡ true → (names : NameLists) → row_text names one.now ≡ row_text names other.now }
-{
-    Cells::of(one) == Cells::of(other)
 }
 
 /// Where the line at a place begins, or would begin behind the last.
@@ -169,7 +131,7 @@ fn add_lines(
     ensures all { OnOk result (length ends.new.items ≡ length rows.now) }
 {
     while ends.len() < rows.count() {
-        add_line(names, rows.row(ends.len()), text, ends)?;
+        add_line(names, &rows.row(ends.len()), text, ends)?;
     }
     Ok(())
 }

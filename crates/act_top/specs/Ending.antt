@@ -3,7 +3,9 @@ use Rattle.std.specs.Prelude.{◌≡◌, ◌≢◌, ◌⊎◌, ◌↔◌, ℕ, �
 use Rattle.act_board.specs.History.{History}
 use Rattle.act_io.specs.Faults.{Rose, next_count}
 use Rattle.act_io.specs.Put.{written_after}
-use Rattle.act_top.specs.Asked.{AsksFor, AsksNoScript}
+use Rattle.act_top.specs.Asked.{Asks, AsksFor, AsksNoScript}
+use Rattle.act_top.specs.Big.{IsBigStatus, IsBoardOfBig, big_outcome}
+use Rattle.act_top.specs.BigCommand.{big_of}
 use Rattle.act_top.specs.Command.{command_of}
 use Rattle.act_top.specs.Desk.{EndsRun, EndsWhole, IsBoardOf, desk_told}
 use Rattle.act_top.specs.DeskAsked.{AsksForDesk, AsksNoFurther}
@@ -42,9 +44,10 @@ pub record EndsAsEval (content : List ℕ → Option (List ℕ)) (words : List (
 
 -- a command of `desk_top`, in the same way, with the board that is handed out
 pub record EndsAsDesk (content : List ℕ → Option (List ℕ)) (words : List (List ℕ)) (status : Status) (board : Option History) (faults now : ℕ) (asked asks : Option (List (List ℕ))) (written puts : Option (List ℕ)) (failed fails : ℕ) : Type 0 where
-  pub outcome : IfSome (desk_told content (desk_of words)) (λ wanted. EndsRun wanted status written puts)
+  pub outcome : big_of words ≡ None → IfSome (desk_told content (desk_of words)) (λ wanted. EndsRun wanted status written puts)
   pub words_status : status ≡ Words → desk_of words ≡ None
-  pub other_words : desk_of words ≡ None → EndsAs words_outcome status written puts
+  pub words_big : status ≡ Words → big_of words ≡ None
+  pub other_words : big_of words ≡ None → desk_of words ≡ None → EndsAs words_outcome status written puts
   pub read_words : status ≡ ReadFault → IsSome (desk_of words)
   pub read_fault : status ≡ ReadFault → now ≡ next_count faults
   pub no_read_fault : status ≢ ReadFault → status ≢ WriteFault → status ≢ NoMemory → now ≡ faults
@@ -53,8 +56,16 @@ pub record EndsAsDesk (content : List ℕ → Option (List ℕ)) (words : List (
   pub no_further : IfSome (desk_of words) (λ command. AsksNoFurther content command asked asks)
   pub write_fault : status ≡ WriteFault → fails ≡ next_count failed
   pub no_write_fault : status ≢ WriteFault → fails ≡ failed
-  pub write_part : status ≡ WriteFault → IfSome (desk_told content (desk_of words)) (WritesDeskPart (λ text. IsProperPart text written puts) (desk_of words) (Rose faults now) asked asks)
-  pub memory_part : status ≡ NoMemory → IfSome (desk_told content (desk_of words)) (WritesDeskPart (λ text. IsPart text written puts) (desk_of words) (Rose faults now) asked asks)
-  pub complete : ¬ (Rose faults now) → ¬ (Rose failed fails) → IfSome (desk_told content (desk_of words)) (λ wanted. (status ≡ NoMemory) ⊎ EndsWhole wanted status written puts)
+  pub write_part : big_of words ≡ None → status ≡ WriteFault → IfSome (desk_told content (desk_of words)) (WritesDeskPart (λ text. IsProperPart text written puts) (desk_of words) (Rose faults now) asked asks)
+  pub memory_part : big_of words ≡ None → status ≡ NoMemory → IfSome (desk_told content (desk_of words)) (WritesDeskPart (λ text. IsPart text written puts) (desk_of words) (Rose faults now) asked asks)
+  pub complete : big_of words ≡ None → ¬ (Rose faults now) → ¬ (Rose failed fails) → IfSome (desk_told content (desk_of words)) (λ wanted. (status ≡ NoMemory) ⊎ EndsWhole wanted status written puts)
   pub handed : IsSome board ↔ ((status ≡ Done) ⊎ (status ≡ Unfinished))
-  pub board_is : IfSome (desk_told content (desk_of words)) (λ wanted. IfSome board (λ b. IsOkAnd wanted (λ job. IsBoardOf job status b written puts)))
+  pub board_is : big_of words ≡ None → IfSome (desk_told content (desk_of words)) (λ wanted. IfSome board (λ b. IsOkAnd wanted (λ job. IsBoardOf job status b written puts)))
+  pub big : IfSome (big_of words) (λ big. EndsAs (big_outcome big.size) status written puts)
+  pub big_status : IfSome (big_of words) (λ _. IsBigStatus status)
+  pub big_asked : IfSome (big_of words) (λ _. Asks [] asked asks)
+  pub big_read : IfSome (big_of words) (λ _. now ≡ faults)
+  pub big_write_part : IfSome (big_of words) (λ big. status ≡ WriteFault → IsProperPart (big_outcome big.size).text written puts)
+  pub big_memory_part : IfSome (big_of words) (λ big. status ≡ NoMemory → IsPart (big_outcome big.size).text written puts)
+  pub big_complete : IfSome (big_of words) (λ big. ¬ (Rose failed fails) → (status ≡ NoMemory) ⊎ ((status ≡ (big_outcome big.size).status) × (puts ≡ written_after written (big_outcome big.size).text)))
+  pub big_board : IfSome (big_of words) (λ big. IfSome board (IsBoardOfBig big.size))

@@ -1,4 +1,7 @@
 pub mod Asked
+pub mod Big
+pub mod BigCommand
+pub mod BigTotals
 pub mod Command
 pub mod Desk
 pub mod DeskAsked

@@ -1,6 +1,10 @@
 //! The command of the desk.
-ghost use Rattle.std.specs.Prelude.{◌≡◌, ◌≢◌, ◌⊎◌, ◌↔◌, None, map, string_bytes, IfOk, IfSome, IsSome, IsOkAnd};
+ghost use Rattle.std.specs.Prelude.{◌≡◌, ◌≢◌, ◌⊎◌, ◌↔◌, None, [], map, string_bytes, IfOk, IfSome, IsSome, IsOkAnd};
 ghost use Rattle.act_io.specs.Faults.{Rose, next_count};
+ghost use Rattle.act_io.specs.Put.{written_after};
+ghost use Rattle.act_top.specs.Asked.{Asks};
+ghost use Rattle.act_top.specs.Big.{IsBigStatus, IsBoardOfBig, big_outcome};
+ghost use Rattle.act_top.specs.BigCommand.{big_of};
 ghost use Rattle.act_top.specs.Desk.{EndsRun, EndsWhole, IsBoardOf, desk_told};
 ghost use Rattle.act_top.specs.DeskAsked.{AsksForDesk, AsksNoFurther};
 ghost use Rattle.act_top.specs.DeskCommand.{desk_of};
@@ -10,6 +14,8 @@ ghost use Rattle.act_top.specs.Played.{IsPlayOf, RunsAs};
 ghost use Rattle.act_top.specs.Written.{IsPart, IsProperPart};
 ghost use Rattle.act_top.specs.declared.top.Status.TheVariants.{Done, NoMemory as NoMemoryLeft, ReadFault, Unfinished, Words, WriteFault};
 
+use crate::big::run_big;
+use crate::big_command::BigCommand;
 use crate::desk_command::DeskCommand;
 use crate::desk_job::{DeskJob, desk_job};
 use crate::top::{Status, answers_status, refuse_words, status_of, write_halt};
@@ -21,21 +27,25 @@ use std::alloc::Global;
 use std::sync::Wait;
 use std::thread::Threads;
 
-/// How a command ended, and the board of its run, which is given exactly where the command is the desk's and its status is `Done` or
-/// `Unfinished`.
+/// How a command ended, and the board of its run, which is given exactly where the command is of `desk_top` and its status is `Done`
+/// or `Unfinished`.
 #[derive(Drop)]
 pub struct Ran {
     /// How it ended.
     pub status: Status,
-    /// The closed board of the run: its journal is the one that was written.
+    /// The closed board of the run: its journal is the one that was written, or whose totals were.
     pub board: Option<Board>,
 }
 
-/// Runs the command of the words, which are `desk W P S1 .. Sk`, over the files, and writes its text, or a line that says why it is
+/// Runs the command of the words, which are `desk W P S1 .. Sk` or `big N W`, and writes its text, or a line that says why it is
 /// refused. W is a decimal from 1 to 64 without sign or leading zero, P names the portfolio file, and each of 1 to 16 script files is
 /// a caller's. Callers and W workers work on one board, which tells the gate of each evaluation before and after it. What is
-/// written is the journal of all callers, and then the answer to each ask over the entries before it, by caller and number. All
-/// other words, those with `big` too, end with `Status::Words` and the usage line.
+/// written is the journal of all callers, and then the answer to each ask over the entries before it, by caller and number.
+///
+/// N is such a decimal from 1 to 1,000. The generator makes a portfolio and a script of it, which are run in the same way, with no
+/// file, and five lines are written: `big N`, how many contracts have a name, how many asks there are, how many rows their answers
+/// have, and the sum of these rows' payoffs, in units of 10^-9 modulo 2^64. All other words end with `Status::Words` and the usage
+/// line.
 pub fn desk_top<R: Threads + Wait + Sync, F: Files, K: Sink, G: Gate>(
     rt: &R,
     alloc: Global,
@@ -44,10 +54,11 @@ pub fn desk_top<R: Threads + Wait + Sync, F: Files, K: Sink, G: Gate>(
     out: &mut K,
     gate: &G,
 ) -> Ran
-    ensures outcome { IfSome (desk_told (F.content files.old) (desk_of (map string_bytes words.now)))
-        (λ wanted. EndsRun wanted result.status (K.written out.old) (K.written out.new)) }
+    ensures outcome { big_of (map string_bytes words.now) ≡ None →
+        IfSome (desk_told (F.content files.old) (desk_of (map string_bytes words.now))) (λ wanted. EndsRun wanted result.status (K.written out.old) (K.written out.new)) }
     ensures words { result.status ≡ Words → desk_of (map string_bytes words.now) ≡ None }
-    ensures other_words { desk_of (map string_bytes words.now) ≡ None →
+    ensures words_big { result.status ≡ Words → big_of (map string_bytes words.now) ≡ None }
+    ensures other_words { big_of (map string_bytes words.now) ≡ None → desk_of (map string_bytes words.now) ≡ None →
         EndsAs words_outcome result.status (K.written out.old) (K.written out.new) }
     ensures read_words { result.status ≡ ReadFault → IsSome (desk_of (map string_bytes words.now)) }
     ensures read_fault { result.status ≡ ReadFault → F.faults files.new ≡ next_count (F.faults files.old) }
@@ -73,29 +84,49 @@ pub fn desk_top<R: Threads + Wait + Sync, F: Files, K: Sink, G: Gate>(
 
     // Where writing failed, what was written is a part of a text that the words come to and not all of it, or, where reading
     // failed, of the line that names the last file asked for.
-    ensures write_part { result.status ≡ WriteFault →
+    ensures write_part { big_of (map string_bytes words.now) ≡ None → result.status ≡ WriteFault →
         IfSome (desk_told (F.content files.old) (desk_of (map string_bytes words.now)))
         (WritesDeskPart (λ text. IsProperPart text (K.written out.old) (K.written out.new))
         (desk_of (map string_bytes words.now)) (Rose (F.faults files.old) (F.faults files.new))
         (F.asked files.old) (F.asked files.new)) }
 
     // The same where memory ran out, but it may be all of it.
-    ensures memory_part { result.status ≡ NoMemoryLeft →
+    ensures memory_part { big_of (map string_bytes words.now) ≡ None → result.status ≡ NoMemoryLeft →
         IfSome (desk_told (F.content files.old) (desk_of (map string_bytes words.now)))
         (WritesDeskPart (λ text. IsPart text (K.written out.old) (K.written out.new))
         (desk_of (map string_bytes words.now)) (Rose (F.faults files.old) (F.faults files.new))
         (F.asked files.old) (F.asked files.new)) }
 
     // Where neither reading nor writing failed, a wanted text is written whole, unless memory ran out.
-    ensures complete { ¬ Rose (F.faults files.old) (F.faults files.new) → ¬ Rose (K.faults out.old) (K.faults out.new) →
+    ensures complete { big_of (map string_bytes words.now) ≡ None →
+        ¬ Rose (F.faults files.old) (F.faults files.new) → ¬ Rose (K.faults out.old) (K.faults out.new) →
         IfSome (desk_told (F.content files.old) (desk_of (map string_bytes words.now))) (λ wanted.
         (result.status ≡ NoMemoryLeft) ⊎ EndsWhole wanted result.status (K.written out.old) (K.written out.new)) }
 
     // The board is handed out exactly where the whole text of a run was written, and it is that run's.
     ensures handed { IsSome result.board ↔ ((result.status ≡ Done) ⊎ (result.status ≡ Unfinished)) }
-    ensures board { IfSome (desk_told (F.content files.old) (desk_of (map string_bytes words.now))) (λ wanted.
+    ensures board { big_of (map string_bytes words.now) ≡ None →
+        IfSome (desk_told (F.content files.old) (desk_of (map string_bytes words.now))) (λ wanted.
         IfSome result.board (λ board. IsOkAnd wanted (λ job. IsBoardOf job result.status board (K.written out.old) (K.written out.new)))) }
+
+    // The words `big N W`: the totals of N are written, which are the same for each W, or a line that refuses what the generator
+    // makes; no file is asked for, and no block is printed.
+    ensures big { IfSome (big_of (map string_bytes words.now)) (λ big. EndsAs (big_outcome big.size) result.status (K.written out.old) (K.written out.new)) }
+    ensures big_status { IfSome (big_of (map string_bytes words.now)) (λ _. IsBigStatus result.status) }
+    ensures big_asked { IfSome (big_of (map string_bytes words.now)) (λ _. Asks [] (F.asked files.old) (F.asked files.new)) }
+    ensures big_read { IfSome (big_of (map string_bytes words.now)) (λ _. F.faults files.new ≡ F.faults files.old) }
+    ensures big_write_part { IfSome (big_of (map string_bytes words.now)) (λ big.
+        result.status ≡ WriteFault → IsProperPart (big_outcome big.size).text (K.written out.old) (K.written out.new)) }
+    ensures big_memory_part { IfSome (big_of (map string_bytes words.now)) (λ big.
+        result.status ≡ NoMemoryLeft → IsPart (big_outcome big.size).text (K.written out.old) (K.written out.new)) }
+    ensures big_complete { IfSome (big_of (map string_bytes words.now)) (λ big. ¬ Rose (K.faults out.old) (K.faults out.new) →
+        (result.status ≡ NoMemoryLeft)
+        ⊎ ((result.status ≡ (big_outcome big.size).status) × (K.written out.new ≡ written_after (K.written out.old) (big_outcome big.size).text))) }
+    ensures big_board { IfSome (big_of (map string_bytes words.now)) (λ big. IfSome result.board (IsBoardOfBig big.size)) }
 {
+    if let Some(command) = BigCommand::of(words) {
+        return run_big(rt, alloc, out, command, gate);
+    }
     let Some(command) = DeskCommand::of(words) else {
         return without_board(status_of(refuse_words(out)));
     };
@@ -106,7 +137,7 @@ pub fn desk_top<R: Threads + Wait + Sync, F: Files, K: Sink, G: Gate>(
 }
 
 /// A command that ended without a board.
-fn without_board(status: Status) -> Ran
+pub(crate) fn without_board(status: Status) -> Ran
     ensures status { result.status ≡ status }
     ensures board { result.board ≡ None }
 {
@@ -133,7 +164,7 @@ fn run<R: Threads + Wait + Sync, K: Sink, G: Gate>(
 }
 
 /// What callers and workers play of a job.
-fn play<R: Threads + Wait + Sync, G: Gate>(
+pub(crate) fn play<R: Threads + Wait + Sync, G: Gate>(
     rt: &R,
     alloc: Global,
     job: &DeskJob,

@@ -6,7 +6,7 @@ use itoa::Buffer;
 use std::marker::Model;
 
 /// The most workers of a desk.
-const MOST_WORKERS: u32 = 64;
+pub(crate) const MOST_WORKERS: u32 = 64;
 
 /// The most callers of a desk, each with a script.
 const MOST_SCRIPTS: usize = 16;
@@ -53,7 +53,7 @@ impl<'a> DeskCommand<'a> {
 }
 
 /// The number from 1 to `most` whose decimal a word is, or None where it is of another form.
-fn number_of_word(most: u32, word: &str) -> Option<u32>
+pub(crate) fn number_of_word(most: u32, word: &str) -> Option<u32>
     ensures { result ≡ number_of_word most word.now }
 {
     for number in 1..=most {

@@ -8,6 +8,7 @@ ghost use Rattle.act_model.specs.declared.journal.Line.{Line as StepLine};
 ghost use Rattle.act_script.specs.Asks.{line_lists};
 ghost use Rattle.act_profile.specs.Answers.{answers_of};
 ghost use Rattle.act_session.specs.Interleaving.{IsInterleaving};
+ghost use Rattle.act_top.specs.BigTotals.{totals_text};
 ghost use Rattle.act_top.specs.Desk.{IsReadyDesk, job_told, weighed_job};
 ghost use Rattle.act_top.specs.DeskAsked.{AsksDesk, AsksNoFurther};
 ghost use Rattle.act_top.specs.DeskCommand.{most_scripts, most_workers};
@@ -17,6 +18,7 @@ ghost use Rattle.act_session.specs.Playing.{replies_of};
 ghost use Rattle.act_top.specs.Scripts.{AreScriptsOf};
 ghost use Rattle.act_top.specs.Written.{Writes, faults_after};
 
+use crate::big_totals::write_totals;
 use crate::desk_command::DeskCommand;
 use crate::halt::Halt;
 use crate::reading::read_portfolio;
@@ -74,7 +76,7 @@ pub(crate) fn desk_job<F: Files>(
 
 impl DeskJob {
     /// What is to be run of scripts, which are refused where their asks weigh too much.
-    fn new(
+    pub(crate) fn new(
         alloc: Global,
         portfolio: Portfolio,
         scripts: Scripts,
@@ -132,6 +134,14 @@ impl DeskJob {
         self.workers
     }
 
+    /// How many contracts of its portfolio have a name.
+    fn named(&self) -> u32
+        ensures named { result ≡ length self.now.portfolio.names.contracts }
+        ensures lines { AreScriptsOf self.now.portfolio self.now.scripts }
+    {
+        self.portfolio.named()
+    }
+
     /// The names that its journal is written with.
     fn names(&self) -> &Names
         ensures names { result.now ≡ self.now.scripts.names }
@@ -158,5 +168,22 @@ impl DeskJob {
     {
         let contracts = self.portfolio.terms().len();
         write_transcript(alloc, out, self.names(), contracts, items, answers)
+    }
+
+    /// Writes the totals of the answers to a journal's asks, caller after caller, under the number of a large run.
+    pub(crate) fn write_totals<K: Sink>(
+        &self,
+        alloc: Global,
+        out: &mut K,
+        size: u32,
+        items: &[Item],
+        answers: &[Vec<Answer>],
+    ) -> Result<(), Stop>
+        requires { replies_of answers.now ≡ answers_of self.now.portfolio.contracts self.now.portfolio.names items.now }
+        ensures text { Writes result (totals_text size (length self.now.portfolio.names.contracts)
+            (answers_of self.now.portfolio.contracts self.now.scripts.names items.now)) (K.written out.old) (K.written out.new) }
+        ensures faults { K.faults out.new ≡ faults_after result (K.faults out.old) }
+    {
+        write_totals(alloc, out, size, self.named(), answers)
     }
 }

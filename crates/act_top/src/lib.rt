@@ -3,6 +3,9 @@
 
 mod actus;
 mod answers;
+mod big;
+mod big_command;
+mod big_totals;
 mod check;
 mod command;
 mod desk;

@@ -147,7 +147,7 @@ fn fetch_halt(alloc: Global, name: &str, fault: FetchFault, unread: Vec<u8>) -> 
 }
 
 /// The portfolio of a file's bytes.
-fn accepted_portfolio(alloc: Global, bytes: &[u8]) -> Result<Portfolio, Halt>
+pub(crate) fn accepted_portfolio(alloc: Global, bytes: &[u8]) -> Result<Portfolio, Halt>
     requires within { length bytes.now ≤ MOST_BYTES }
     ensures told { Reads (portfolio_accepted bytes.now) result }
     ensures refused { IfErr result (RefusesOnly ⊤ ⊥) }
@@ -184,7 +184,7 @@ fn portfolio_line(alloc: Global, number: u8, place: u32, what: &[u8]) -> Result<
 }
 
 /// The script of that number of a file's bytes, read with the names and behind the entries of those before it.
-fn accepted_script(
+pub(crate) fn accepted_script(
     alloc: Global,
     portfolio: &Portfolio,
     number: u32,

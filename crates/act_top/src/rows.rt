@@ -89,7 +89,7 @@ fn write_new_rows<K: Sink>(
     ensures faults { K.faults out.new ≡ faults_after result (K.faults out.old) }
 {
     for place in 0..rows.count() {
-        write_row(out, line, names, rows.row(place))?;
+        write_row(out, line, names, &rows.row(place))?;
     }
     Ok(())
 }

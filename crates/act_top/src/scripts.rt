@@ -99,7 +99,7 @@ impl Scripts {
 }
 
 /// Scripts of these lines, and one that was read behind them.
-fn with_script(mut lists: Vec<Vec<Line>>, script: Script) -> Result<Scripts, NoMemory>
+pub(crate) fn with_script(mut lists: Vec<Vec<Line>>, script: Script) -> Result<Scripts, NoMemory>
     ensures { IfOk result (λ scripts.
         scripts ≡ record { lists = line_lists lists.items ++ script.lines ∷ []; names = script.names; entries = script.entries }) }
 {

@@ -70,8 +70,8 @@ const USAGE: &[u8] = b"usage: eval P [S] | check P | desk W P S.. | big N W\n";
 ///
 /// `eval P S` evaluates the contracts of the portfolio file P that the script file S asks for: it writes the journal of
 /// the one caller, then the answer to each ask over the entries before it, and last how many rows were computed for them.
-/// A contract's evaluation goes on from what is kept of the one before, so that an entry costs only the rows dated from its
-/// day on, of the contracts that read it. `eval P` has the script of one line that asks for all contracts. `check P` writes
+/// A contract's evaluation goes on from what is kept of the one before, so that an ask computes only the rows dated from the
+/// earliest day of the entries since then that the contract, or one that it refers to, reads. `eval P` has the script of one line that asks for all contracts. `check P` writes
 /// the contracts of P, with the names that they don't use.
 pub fn eval_top<F: Files, K: Sink, L: Ledger>(
     alloc: Global,

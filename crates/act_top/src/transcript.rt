@@ -79,7 +79,7 @@ pub(crate) fn write_work<K: Sink>(out: &mut K, line: &mut Vec<u8>, work: u64) ->
 }
 
 /// How many answers there are.
-fn answer_count(lists: &[Vec<Answer>]) -> usize
+pub(crate) fn answer_count(lists: &[Vec<Answer>]) -> usize
     requires { length (replies_of lists.now) < 2 ^ 64 }
     ensures { result ≡ length (replies_of lists.now) }
 {

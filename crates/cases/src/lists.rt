@@ -66,7 +66,7 @@ fn is_same(pair: &Pair) -> bool {
         return false;
     }
     for place in 0..pair.rows.count() {
-        if Some(pair.rows.row(place)) != pair.plain.get(place) {
+        if Some(&pair.rows.row(place)) != pair.plain.get(place) {
             return false;
         }
     }
@@ -76,6 +76,7 @@ fn is_same(pair: &Pair) -> bool {
 /// A row whose amounts are drawn.
 fn row(draws: &mut Draws) -> Option<Row> {
     let (day, payoff) = (draws.day()?, draws.amount()?);
+    let payment = Fixed::from_units(i128::from(draws.below(2)))?;
     let state = State {
         sd: Some(day),
         md: None,
@@ -89,7 +90,7 @@ fn row(draws: &mut Draws) -> Option<Row> {
         nsc: Fixed::ZERO,
         isc: Fixed::ZERO,
         ipcb: Fixed::ZERO,
-        prnxt: Fixed::ZERO,
+        prnxt: payment,
         xa: Fixed::ZERO,
     };
     Some(Row {

@@ -279,7 +279,7 @@ fn rows_before(alloc: Global, run: &Run, day: Day) -> Result<Rows, NoMemory>
 {
     let mut rows = Rows::new(alloc);
     'rows: for place in 0..run.rows.count() {
-        push_before(&mut rows, run.rows.row(place), day)?;
+        push_before(&mut rows, &run.rows.row(place), day)?;
     }
     Ok(rows)
 }
@@ -316,7 +316,7 @@ fn have_the_same(one: &Rows, other: &Rows) -> bool
         return false;
     }
     'rows: for place in 0..count {
-        if !is_same_row(one.row(place), other.row(place)) {
+        if !is_same_row(&one.row(place), &other.row(place)) {
             return false;
         }
     }

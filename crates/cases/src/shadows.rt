@@ -168,7 +168,7 @@ fn run_told(told: &mut Told, run: &Run) {
 fn push_lines(names: &mut Names, run: &Run, lines: &mut Vec<u8>) -> Result<(), NoMemory> {
     add(names, "currency", "0").ok_or(NoMemory)?;
     for place in 0..run.rows.count() {
-        row_line(names, run.rows.row(place), lines)?;
+        row_line(names, &run.rows.row(place), lines)?;
     }
     close_line(names, &run.close, lines)
 }

@@ -1,7 +1,6 @@
-use Rattle.std.proofs.Common.{List, [], ◌∷◌, ◌++◌, Vec, map, take, get_or, sym, ap, ap₂, ◌∙◌, arith}
+use Rattle.std.proofs.Common.{List, [], ◌∷◌, ◌++◌, map, take, get_or, sym, ap, ap₂, ◌∙◌, arith}
 use Rattle.std.proofs.lemmas.List.{map_push, take_more}
 use Rattle.std.specs.Arc.{arc_value}
-use Rattle.std.specs.declared.alloc.Global.{Global}
 use Rattle.act_model.specs.declared.run.Row.{Row}
 use Rattle.act_model.proofs.rows.shared.Goals as goal
 
@@ -12,6 +11,6 @@ chunks-preserved c =
     let item = c.chunk-item.result in
     ap (map arc_value) c.in_ok-push.ensures.items
     ∙ map_push arc_value c.chunks.same.items c.in_ok-try_clone.field-0
-    ∙ ap₂ (λ (same : List (Vec Row Global)) chunk. same ++ chunk ∷ []) c.chunks.invariant (c.in_ok-try_clone.ensures ∙ ap arc_value c.chunk-item.is)
+    ∙ ap₂ (λ (same : List (List Row)) chunk. same ++ chunk ∷ []) c.chunks.invariant (c.in_ok-try_clone.ensures ∙ ap arc_value c.chunk-item.is)
     ∙ sym (map_push arc_value (take i chunks) (get_or chunks i item))
     ∙ ap (map arc_value) (sym (take_more chunks i item (omega (arith, c.chunks-test.true))))

@@ -12,7 +12,7 @@ rows-preserved c =
     let rows = c.args.run.now.rows in
     elim c.if-is_netted_with.branch [
       | then-is_netted_with w ↦
-          (rw w.count-is (counted_more row rows c.rows.earlier c.rows.count c.row.result.now c.row.ensures c.rows.invariant.0 (sym c.is_netted_with.ensures ∙ w.if-is_netted_with.true)), omega arith)
+          (rw w.count-is (counted_more row rows c.rows.earlier c.rows.count c.row.result c.row.ensures c.rows.invariant.0 (sym c.is_netted_with.ensures ∙ w.if-is_netted_with.true)), omega arith)
       | else-is_netted_with w ↦
-          (rw w.count-is (counted_same row rows c.rows.earlier c.rows.count c.row.result.now c.row.ensures c.rows.invariant.0 (sym c.is_netted_with.ensures ∙ w.if-is_netted_with.false)), omega arith)
+          (rw w.count-is (counted_same row rows c.rows.earlier c.rows.count c.row.result c.row.ensures c.rows.invariant.0 (sym c.is_netted_with.ensures ∙ w.if-is_netted_with.false)), omega arith)
     ]

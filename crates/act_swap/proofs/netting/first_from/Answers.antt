@@ -5,13 +5,13 @@ use Rattle.act_swap.proofs.netting.first_from.Goals as goal
 
 pub returns-then-ge : goal.returns-then-ge
 returns-then-ge c =
-    let from : int_lt c.row.result.now.day c.args.day ≡ false = grind (arith, ints) in
-    stops_here c.args.day c.args.run.now.rows c.rows.place c.row.result.now c.rows.invariant c.row.ensures from
+    let from : int_lt c.row.result.day c.args.day ≡ false = grind (arith, ints) in
+    stops_here c.args.day c.args.run.now.rows c.rows.place c.row.result c.rows.invariant c.row.ensures from
 
 pub rows-preserved : goal.rows-preserved
 rows-preserved c =
-    let before : int_lt c.row.result.now.day c.args.day ≡ true = grind (arith, ints) in
-    goes_on c.args.day c.args.run.now.rows c.rows.place c.row.result.now c.rows.invariant c.row.ensures before
+    let before : int_lt c.row.result.day c.args.day ≡ true = grind (arith, ints) in
+    goes_on c.args.day c.args.run.now.rows c.rows.place c.row.result c.rows.invariant c.row.ensures before
 
 pub returns : goal.returns
 returns c =

@@ -7,6 +7,6 @@ use Rattle.act_text.proofs.kept.add_lines.Goals as goal
 pub loop-ends-preserved : goal.loop-ends-preserved
 loop-ends-preserved c = record {
   within = omega (arith, c.loop-ends-test.true, c.len.ensures, c.count.ensures, ap length c.in_ok-add_line.ensures.ends, length-append c.loop-ends.ends.items (length c.add_line.new.text.items ∷ []));
-  are = lines_more c.args.names.now c.args.rows.now c.loop-ends.text.items c.loop-ends.ends.items c.add_line.new.text.items c.add_line.new.ends.items c.row.result.now c.loop-ends.invariant.are
-      (subst (λ n. slice_get c.args.rows.now n ≡ Some c.row.result.now) (c.len-in-loop-ends.ensures ∙ search rules) c.row.ensures) c.in_ok-add_line.ensures.text c.in_ok-add_line.ensures.ends;
+  are = lines_more c.args.names.now c.args.rows.now c.loop-ends.text.items c.loop-ends.ends.items c.add_line.new.text.items c.add_line.new.ends.items c.row.result c.loop-ends.invariant.are
+      (subst (λ n. slice_get c.args.rows.now n ≡ Some c.row.result) (c.len-in-loop-ends.ensures ∙ search rules) c.row.ensures) c.in_ok-add_line.ensures.text c.in_ok-add_line.ensures.ends;
 }

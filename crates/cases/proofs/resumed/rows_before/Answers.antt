@@ -7,7 +7,7 @@ use Rattle.cases.proofs.resumed.rows_before.Goals as goal
 
 pub rows-preserved : goal.rows-preserved
 rows-preserved c =
-    let row = c.row.result.now in
+    let row = c.row.result in
     let test : Row → _ = λ r. int_lt r.day c.args.day in
     c.in_ok-push_before.ensures
     ∙ ap (λ (rows : List Row). rows ++ filter test (row ∷ [])) c.rows.invariant

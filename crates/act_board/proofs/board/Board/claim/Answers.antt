@@ -1,63 +1,60 @@
-use Rattle.std.proofs.Common.{◌≡◌, ◌<◌, ℕ, false, List, length, Some, refl, sym, ap, subst, ◌∙◌, arith}
+use Rattle.std.proofs.Common.{◌≡◌, ◌<◌, ℕ, false, length, Some, refl, sym, ap, subst, ◌∙◌, arith}
 use Rattle.std.specs.Arc.{arc_value}
 use Rattle.std.specs.List.{list_all, slice_get}
 use Rattle.std.proofs.lemmas.Option.{slice_get_read}
 use Rattle.act_portfolio.specs.Reading.{Accepted}
 use Rattle.act_board.specs.Calls.{HasEnded, IsOf}
 use Rattle.act_board.specs.History.{History, and_then, is_given_up}
-use Rattle.act_board.specs.Kept.{ArePairs, IsPast, Keeps, NoneIsFree}
-use Rattle.act_board.specs.Latest.{kept_for}
+use Rattle.act_board.specs.Latest.{cut_for, kept_for}
 use Rattle.act_board.specs.Legal.{IsLegal, IsNext, NoneIsClaimable}
 use Rattle.act_board.specs.Work as evaluation
 use Rattle.act_board.specs.declared.caller.Caller.{Caller}
 use Rattle.act_board.specs.declared.mark.Mark.TheVariants as mark
-use Rattle.act_board.specs.declared.pair.Pair.{Pair}
-use Rattle.act_board.proofs.Boards.{board-front}
-use Rattle.act_board.proofs.Claimed.{claim-none, claim-told, has-ended, not-ended}
+use Rattle.act_board.proofs.Claimed.{has-ended, not-ended}
+use Rattle.act_board.proofs.Readiness.{next-told, none-told, place-told}
 use Rattle.act_board.proofs.Told.{told-anyway}
 use Rattle.act_board.proofs.board.Board.claim.Goals as goal
 
-pub next_claimable-requires-clause-ranks : goal.next_claimable-requires-clause-ranks
-next_claimable-requires-clause-ranks c = λ k pair at.
-    subst (λ (p : Accepted). pair.rank < length p.order) (sym c.deref-3.ensures)
-    (c.self.invariant.0.pairs.each pair (k, ap (λ (xs : List Pair). slice_get xs k) (sym c.deref-4.ensures.value) ∙ at)).rank
+pub index-pair-requires : goal.index-pair-requires
+index-pair-requires c =
+    let b = c.self.inside in
+    let raw : History = record { portfolio = arc_value b.portfolio; quotas = b.quotas.items; marks = b.marks.items } in
+    let within : c.in-Some.place.now < length b.pairs.items = place-told raw _ b.items.items b.book b.callers.items b.pairs.items b.front b.owing b.given_up c.self.invariant.0 b.ready.lacking.items b.ready.places.items _ b.parents.items c.self.invariant.2 c.deref-3.result.now c.in-Some.place.now c.deref-3.ensures.value c.in-Some.ensures.value in
+    omega (arith, within, b.pairs.ok.0)
 
 pub bounds-order-pair : goal.bounds-order-pair
 bounds-order-pair c =
     let b = c.self.inside in
-    let within : c.in-Some.place < length b.pairs.items = omega (arith, c.in-Some.ensures.within, ap length c.deref-4.ensures.value) in
-    let at : slice_get b.pairs.items c.in-Some.place ≡ Some c.index-pair.result.now = slice_get_read b.pairs.items _ c.in-Some.place c.index-pair.result.now refl within c.index-pair.ensures in
-    let rank = (c.self.invariant.0.pairs.each c.index-pair.result.now (c.in-Some.place, at)).rank in
+    let raw : History = record { portfolio = arc_value b.portfolio; quotas = b.quotas.items; marks = b.marks.items } in
+    let within : c.in-Some.place.now < length b.pairs.items = place-told raw _ b.items.items b.book b.callers.items b.pairs.items b.front b.owing b.given_up c.self.invariant.0 b.ready.lacking.items b.ready.places.items _ b.parents.items c.self.invariant.2 c.deref-3.result.now c.in-Some.place.now c.deref-3.ensures.value c.in-Some.ensures.value in
+    let at : slice_get b.pairs.items c.in-Some.place.now ≡ Some c.index-pair.result.now = slice_get_read b.pairs.items _ c.in-Some.place.now c.index-pair.result.now refl within c.index-pair.ensures in
+    let rank = (c.self.invariant.0.pairs.each c.index-pair.result.now (c.in-Some.place.now, at)).rank in
     omega (arith, rank, ap length c.order.ensures.order, ap (λ (p : Accepted). length p.order) c.deref-in-Some.ensures)
 
 pub hand_out-requires-clause-next : goal.hand_out-requires-clause-next
 hand_out-requires-clause-next c =
     let b = c.self.inside in
-    let front = c.first_waiting-self-inside.result in
-    let within : c.in-Some.place < length b.pairs.items = omega (arith, c.in-Some.ensures.within, ap length c.deref-4.ensures.value) in
-    let at : slice_get b.pairs.items c.in-Some.place ≡ Some c.index-pair.result.now = slice_get_read b.pairs.items _ c.in-Some.place c.index-pair.result.now refl within c.index-pair.ensures in
-    let past = subst (λ (xs : List Pair). IsPast xs front) c.deref-2.ensures.value c.first_waiting-self-inside.ensures.past in
-    claim-told _ _ b.items.items b.book b.callers.items b.pairs.items front b.owing b.given_up (board-front _ _ b.items.items b.book b.callers.items b.pairs.items b.front b.owing b.given_up c.self.invariant.0 front past)
-    c.deref-3.result.now c.deref-4.result.now c.order.result.now c.in-Some.place c.index-pair.result.now c.deref-3.ensures c.deref-4.ensures.value (c.order.ensures.order ∙ ap (λ (p : Accepted). p.order) c.deref-in-Some.ensures) c.in-Some.ensures.free c.in-Some.ensures.first at c.if-self.false
+    let raw : History = record { portfolio = arc_value b.portfolio; quotas = b.quotas.items; marks = b.marks.items } in
+    let within : c.in-Some.place.now < length b.pairs.items = place-told raw _ b.items.items b.book b.callers.items b.pairs.items b.front b.owing b.given_up c.self.invariant.0 b.ready.lacking.items b.ready.places.items _ b.parents.items c.self.invariant.2 c.deref-3.result.now c.in-Some.place.now c.deref-3.ensures.value c.in-Some.ensures.value in
+    let at : slice_get b.pairs.items c.in-Some.place.now ≡ Some c.index-pair.result.now = slice_get_read b.pairs.items _ c.in-Some.place.now c.index-pair.result.now refl within c.index-pair.ensures in
+    next-told raw _ b.items.items b.book b.callers.items b.pairs.items b.front b.owing b.given_up c.self.invariant.0 b.ready.lacking.items b.ready.places.items _ b.parents.items c.self.invariant.2 c.deref-3.result.now c.order.result.now c.in-Some.place.now c.index-pair.result.now c.deref-3.ensures.value c.in-Some.ensures.value at (c.order.ensures.order ∙ ap (λ (p : Accepted). p.order) c.deref-in-Some.ensures) c.if-self.false
 
 pub returns-in_ok-task-in-Some-clause-claimed : goal.returns-in_ok-task-in-Some-clause-claimed
 returns-in_ok-task-in-Some-clause-claimed c =
     let b = c.self.inside in
     let raw : History = record { portfolio = arc_value b.portfolio; quotas = b.quotas.items; marks = b.marks.items } in
-    let front = c.first_waiting-self-inside.result in
-    let within : c.in-Some.place < length b.pairs.items = omega (arith, c.in-Some.ensures.within, ap length c.deref-4.ensures.value) in
-    let at : slice_get b.pairs.items c.in-Some.place ≡ Some c.index-pair.result.now = slice_get_read b.pairs.items _ c.in-Some.place c.index-pair.result.now refl within c.index-pair.ensures in
-    let past = subst (λ (xs : List Pair). IsPast xs front) c.deref-2.ensures.value c.first_waiting-self-inside.ensures.past in
-    let is = claim-told raw _ b.items.items b.book b.callers.items b.pairs.items front b.owing b.given_up (board-front raw _ b.items.items b.book b.callers.items b.pairs.items b.front b.owing b.given_up c.self.invariant.0 front past)
-    c.deref-3.result.now c.deref-4.result.now c.order.result.now c.in-Some.place c.index-pair.result.now c.deref-3.ensures c.deref-4.ensures.value (c.order.ensures.order ∙ ap (λ (p : Accepted). p.order) c.deref-in-Some.ensures) c.in-Some.ensures.free c.in-Some.ensures.first at c.if-self.false in
+    let within : c.in-Some.place.now < length b.pairs.items = place-told raw _ b.items.items b.book b.callers.items b.pairs.items b.front b.owing b.given_up c.self.invariant.0 b.ready.lacking.items b.ready.places.items _ b.parents.items c.self.invariant.2 c.deref-3.result.now c.in-Some.place.now c.deref-3.ensures.value c.in-Some.ensures.value in
+    let at : slice_get b.pairs.items c.in-Some.place.now ≡ Some c.index-pair.result.now = slice_get_read b.pairs.items _ c.in-Some.place.now c.index-pair.result.now refl within c.index-pair.ensures in
+    let is = next-told raw _ b.items.items b.book b.callers.items b.pairs.items b.front b.owing b.given_up c.self.invariant.0 b.ready.lacking.items b.ready.places.items _ b.parents.items c.self.invariant.2 c.deref-3.result.now c.order.result.now c.in-Some.place.now c.index-pair.result.now c.deref-3.ensures.value c.in-Some.ensures.value at (c.order.ensures.order ∙ ap (λ (p : Accepted). p.order) c.deref-in-Some.ensures) c.if-self.false in
     let task = c.in_ok-task-in-Some.task in
     let told = c.in_ok-task-in-Some.ensures in
     let next = subst (λ (v : ℕ). IsNext raw task.contract v) (sym told.version) (subst (λ (d : ℕ). IsNext raw d c.index-pair.result.now.version) (sym told.contract) is) in
     let claimed = told.claimed ∙ (ap (λ (d : ℕ). and_then raw (mark.Claim d c.index-pair.result.now.version)) (sym told.contract) ∙ ap (λ (v : ℕ). and_then raw (mark.Claim task.contract v)) (sym told.version)) in
     let kept = told.kept ∙ (ap (λ (d : ℕ). kept_for raw d c.index-pair.result.now.version) (sym told.contract) ∙ ap (λ (v : ℕ). kept_for raw task.contract v) (sym told.version)) in
+    let cut = told.cut ∙ (ap (λ (d : ℕ). cut_for raw d c.index-pair.result.now.version) (sym told.contract) ∙ ap (λ (v : ℕ). cut_for raw task.contract v) (sym told.version)) in
     subst (λ (h : History). (is_given_up h ≡ false) × IsOf h task × IsNext h task.contract (evaluation.version task) × (c.hand_out.new.self ≡ and_then h (mark.Claim task.contract (evaluation.version task)))
-    × (task.kept ≡ kept_for h task.contract (evaluation.version task))) c.self.view_is
-    (sym c.self.invariant.0.given_up ∙ c.if-self.false, told.work, next, claimed, kept)
+    × (task.kept ≡ kept_for h task.contract (evaluation.version task)) × (task.cut ≡ cut_for h task.contract (evaluation.version task))) c.self.view_is
+    (sym c.self.invariant.0.given_up ∙ c.if-self.false, told.work, next, claimed, kept, cut)
 
 pub returns-in-None-clause-claimed : goal.returns-in-None-clause-claimed
 returns-in-None-clause-claimed c =
@@ -71,15 +68,11 @@ pub returns-in-None-2-clause-claimed : goal.returns-in-None-2-clause-claimed
 returns-in-None-2-clause-claimed c =
     let b = c.self.inside in
     let raw : History = record { portfolio = arc_value b.portfolio; quotas = b.quotas.items; marks = b.marks.items } in
-    let front = c.first_waiting-self-inside.result in
-    let past = subst (λ (xs : List Pair). IsPast xs front) c.deref-2.ensures.value c.first_waiting-self-inside.ensures.past in
-    let board = board-front raw _ b.items.items b.book b.callers.items b.pairs.items b.front b.owing b.given_up c.self.invariant.0 front past in
-    let keeps : Keeps c.deref-3.result.now c.deref-4.result.now raw = (subst (ArePairs raw) (sym c.deref-4.ensures.value) c.self.invariant.0.pairs, sym c.deref-3.ensures) in
-    let none = subst (λ (xs : List Pair). NoneIsFree raw xs front (length xs)) c.deref-4.ensures.value (c.in-None.ensures.none refl raw keeps) in
+    let none = none-told raw _ b.items.items b.book b.callers.items b.pairs.items b.front b.owing b.given_up c.self.invariant.0 b.ready.lacking.items b.ready.places.items _ b.parents.items c.self.invariant.2 c.deref-3.result.now c.deref-3.ensures.value c.in-None.ensures.value in
     let left = sym (ap (list_all (λ (caller : Caller). caller.left)) c.deref.ensures.value) ∙ (sym c.all_left-left.ensures ∙ c.if-left.false) in
     subst (λ (h : History). (is_given_up h ≡ false) × NoneIsClaimable h × (¬ (HasEnded h)) × (raw ≡ h)) c.self.view_is (
       sym c.self.invariant.0.given_up ∙ c.if-self.false,
-      claim-none raw _ b.items.items b.book b.callers.items b.pairs.items front b.owing b.given_up board none,
+      none,
       not-ended raw _ b.items.items b.book b.callers.items b.pairs.items b.front b.owing b.given_up c.self.invariant.0 left,
       refl,
     )
@@ -88,10 +81,7 @@ pub returns-in_err-task-in-Some-clause-memory : goal.returns-in_err-task-in-Some
 returns-in_err-task-in-Some-clause-memory c =
     let b = c.self.inside in
     let raw : History = record { portfolio = arc_value b.portfolio; quotas = b.quotas.items; marks = b.marks.items } in
-    let front = c.first_waiting-self-inside.result in
-    let within : c.in-Some.place < length b.pairs.items = omega (arith, c.in-Some.ensures.within, ap length c.deref-4.ensures.value) in
-    let at : slice_get b.pairs.items c.in-Some.place ≡ Some c.index-pair.result.now = slice_get_read b.pairs.items _ c.in-Some.place c.index-pair.result.now refl within c.index-pair.ensures in
-    let past = subst (λ (xs : List Pair). IsPast xs front) c.deref-2.ensures.value c.first_waiting-self-inside.ensures.past in
-    let is = claim-told raw _ b.items.items b.book b.callers.items b.pairs.items front b.owing b.given_up (board-front raw _ b.items.items b.book b.callers.items b.pairs.items b.front b.owing b.given_up c.self.invariant.0 front past)
-    c.deref-3.result.now c.deref-4.result.now c.order.result.now c.in-Some.place c.index-pair.result.now c.deref-3.ensures c.deref-4.ensures.value (c.order.ensures.order ∙ ap (λ (p : Accepted). p.order) c.deref-in-Some.ensures) c.in-Some.ensures.free c.in-Some.ensures.first at c.if-self.false in
+    let within : c.in-Some.place.now < length b.pairs.items = place-told raw _ b.items.items b.book b.callers.items b.pairs.items b.front b.owing b.given_up c.self.invariant.0 b.ready.lacking.items b.ready.places.items _ b.parents.items c.self.invariant.2 c.deref-3.result.now c.in-Some.place.now c.deref-3.ensures.value c.in-Some.ensures.value in
+    let at : slice_get b.pairs.items c.in-Some.place.now ≡ Some c.index-pair.result.now = slice_get_read b.pairs.items _ c.in-Some.place.now c.index-pair.result.now refl within c.index-pair.ensures in
+    let is = next-told raw _ b.items.items b.book b.callers.items b.pairs.items b.front b.owing b.given_up c.self.invariant.0 b.ready.lacking.items b.ready.places.items _ b.parents.items c.self.invariant.2 c.deref-3.result.now c.order.result.now c.in-Some.place.now c.index-pair.result.now c.deref-3.ensures.value c.in-Some.ensures.value at (c.order.ensures.order ∙ ap (λ (p : Accepted). p.order) c.deref-in-Some.ensures) c.if-self.false in
     told-anyway c.from_residual.result _ (subst (λ (h : History). (d : ℕ) × (v : ℕ) × IsLegal h (mark.Claim d v)) c.self.view_is (_, _, (sym c.self.invariant.0.given_up ∙ c.if-self.false, is)))

@@ -21,6 +21,7 @@ use Rattle.act_board.proofs.Answered.{asked-wanted, board-collected, not-ready, 
 use Rattle.act_board.proofs.Quotas.{few-open}
 use Rattle.act_board.proofs.Told.{there, told-anyway}
 use Rattle.act_board.proofs.LatestRuns.{latest-quiet}
+use Rattle.act_board.proofs.Readiness.{ready-quiet}
 use Rattle.act_board.proofs.board.Board.collect.Goals as goal
 
 pub oldest-ask-requires-clause-some : goal.oldest-ask-requires-clause-some
@@ -82,6 +83,7 @@ invariant_of-self c =
           (board-collected raw _ b.items.items b.book b.callers.items b.pairs.items b.front b.owing b.given_up c.self.invariant.0 i c.requires.present.from to c.oldest-ask.result c.put_mark.new.marks.items (vec_capacity c.put_mark.new.marks) c.close_oldest.new.callers
           legal ask.0 ready marked c.put_mark.ensures.kept closes),
       latest-quiet _ _ c.self.invariant.1 (mark.Collect i) c.put_mark.new.marks.items marked (λ d. refl) refl,
+      ready-quiet _ _ _ _ _ _ c.self.invariant.2 (mark.Collect i) c.put_mark.new.marks.items marked (λ d w. refl),
     )
 
 pub returns-clause-collected : goal.returns-clause-collected

@@ -1,6 +1,6 @@
 use Rattle.std.proofs.Common.{◌≡◌, ℕ, true, false, List, [], ◌∷◌, ◌++◌, length, set, take, Option, Some, None, refl, sym, ap, subst, ◌∙◌, arith, slice_index_or, vec_capacity, ◌<◌, ◌≤◌}
 use Rattle.std.specs.Arc.{arc_value}
-use Rattle.std.specs.List.{slice_get}
+use Rattle.std.specs.List.{All, slice_get}
 use Rattle.std.proofs.lemmas.List.{length-set}
 use Rattle.std.proofs.lemmas.Option.{slice_get_within}
 use Rattle.act_model.specs.declared.observed.Obs.{Obs}
@@ -8,11 +8,14 @@ use Rattle.act_portfolio.specs.Reading.{Accepted}
 use Rattle.act_profile.specs.Run.{run_of}
 use Rattle.act_model.specs.Run.{Stream}
 use Rattle.act_swap.specs.Children.{AreInDayOrder}
+use Rattle.act_refs.specs.Path.{child_lists, children_of}
+use Rattle.act_refs.proofs.Paths.{children_of-read, length-child_lists}
 use Rattle.act_refs.proofs.Turning.{written_back}
 use Rattle.act_board.specs.Calls.{IsOf}
-use Rattle.act_board.specs.History.{History, and_then, entries_of, is_claimed, version_of}
-use Rattle.act_board.specs.Kept.{IsPut, IsResult, IsUnderWay, contract_at}
+use Rattle.act_board.specs.History.{History, and_then, entries_of, has_result, is_claimed, version_of}
+use Rattle.act_board.specs.Kept.{AreSorted, IsListed, IsPut, IsResult, IsUnderWay, contract_at}
 use Rattle.act_board.specs.Latest.{is_later}
+use Rattle.act_board.specs.Ready.{AreApart, AreFree, AreSettled, Lacks}
 use Rattle.act_board.specs.Work.{version}
 use Rattle.act_board.specs.declared.latest.Latest.{Latest}
 use Rattle.act_board.specs.declared.mark.Mark.{Mark}
@@ -22,7 +25,16 @@ use Rattle.act_board.specs.declared.pair.Progress.TheVariants.{Done}
 use Rattle.act_board.proofs.Claimed.{board-finished, claimed-told, owed-one, unclaimed-told}
 use Rattle.act_board.proofs.Told.{contract-is}
 use Rattle.act_board.proofs.LatestRuns.{latest-finished, latest-length}
+use Rattle.act_board.proofs.Pairs.{put-sorted, ranks-apart}
+use Rattle.act_board.proofs.Readiness.{begun-told, lacks-told, put-free, put-lack, put-ranks, ready-finished}
+use Rattle.act_board.proofs.Referring.{parents-exist}
 use Rattle.act_board.proofs.board.Board.finish.Goals as goal
+
+pub put_progress-requires-clause-listed : goal.put_progress-requires-clause-listed
+put_progress-requires-clause-listed c =
+    let way = c.if-not-is_claimed.ensures.yes refl in
+    let listed : IsListed c.deref-2.result.now c.into_parts-contract.result.1 c.rank-rank.result = (way.0, way.1, way.2, way.3) in
+    subst (λ (xs : List Pair). IsListed xs c.into_parts-contract.result.1 c.rank-rank.result) (c.deref-2.ensures.value ∙ sym c.deref_mut.ensures.value) listed
 
 pub returns-then-not-is_claimed : goal.returns-then-not-is_claimed
 returns-then-not-is_claimed c =
@@ -92,12 +104,24 @@ invariant_of-self c =
     let there : d < length b.latest.items = omega (arith, c.into_parts-contract.ensures.within, ap (λ (q : Accepted). length q.contracts.terms) of.portfolio, c.self.invariant.1.count) in
     let later = subst (λ (xs : List (Option Latest)). is_later (slice_index_or xs d None) v ≡ true → c.put_latest.new.latest ≡ xs) c.deref_mut-2.ensures.value c.put_latest.ensures.later in
     let put_on = subst (λ (xs : List (Option Latest)). is_later (slice_index_or xs d None) v ≡ false → c.put_latest.new.latest ≡ set xs d (Some (record { version = v; run = latest }))) c.deref_mut-2.ensures.value c.put_latest.ensures.put in
+    let read : c.deref-4.result.now ≡ c.put_progress.new.pairs = c.deref-4.ensures.value ∙ written_back b.pairs.len c.put_progress.new.pairs b.pairs.items (ap length put.is ∙ length-set b.pairs.items put.place (record { version = v; rank = r; progress = Done run })) (sym c.deref_mut.ensures.len ∙ ap length c.deref_mut.ensures.value) in
+    let known-one : d < length p.contracts.children = omega (arith, c.into_parts-contract.ensures.within, ap (λ (q : Accepted). length q.contracts.terms) of.portfolio, c.self.invariant.0.count) in
+    let listed : c.deref-5.result.now ≡ children_of (child_lists b.parents.items) d = c.deref-5.ensures.value ∙ sym (children_of-read b.parents.items d c.index.result.now c.index.ensures (omega (arith, known-one, c.self.invariant.2.turned.count, length-child_lists b.parents.items))) in
+    let lacks : has_result raw d v ≡ false = lacks-told raw d v (subst (λ (e : ℕ). is_claimed raw e v ≡ true) same (claimed-told raw _ b.items.items b.book b.callers.items b.pairs.items b.front b.owing b.given_up c.self.invariant.0 v r claimed)) in
+    let begun = begun-told b.pairs.items c.put_progress.new.pairs v r (Done run) c.self.invariant.0.pairs.sorted put claimed in
+    let settled = subst (λ (xs : List Pair). AreSettled p.order (children_of (child_lists b.parents.items) d) v xs b.ready.lacking.items c.settle.new.ready.lacking.items) read
+    (subst (λ (xs : List ℕ). AreSettled p.order xs v c.deref-4.result.now b.ready.lacking.items c.settle.new.ready.lacking.items) listed
+    (subst (λ (q : Accepted). AreSettled q.order c.deref-5.result.now v c.deref-4.result.now b.ready.lacking.items c.settle.new.ready.lacking.items) c.deref-3.ensures c.settle.ensures.settled)) in
     let marked-own = c.put_mark.ensures.added ∙ ap (λ (m : Mark). b.marks.items ++ m ∷ []) c.finish.ensures in (
       rw (written_back b.pairs.len c.put_progress.new.pairs b.pairs.items (ap length put.is ∙ length-set b.pairs.items put.place (record { version = v; rank = r; progress = Done run })) (sym c.deref_mut.ensures.len ∙ ap length c.deref_mut.ensures.value))
           (board-finished raw _ b.items.items b.book b.callers.items b.pairs.items b.front b.owing b.given_up c.self.invariant.0 v r run c.put_progress.new.pairs c.put_mark.new.marks.items (vec_capacity c.put_mark.new.marks) put claimed
           (slice_get_within p.order r d ranked) (made, c.into_parts-contract.ensures.in_day_order) marked c.put_mark.ensures.kept),
       rw (written_back b.latest.len c.put_latest.new.latest b.latest.items (latest-length raw b.latest.items c.put_latest.new.latest d v latest c.self.invariant.1 there known result later put_on) (sym c.deref_mut-2.ensures.len ∙ ap length c.deref_mut-2.ensures.value))
           (latest-finished raw b.latest.items c.put_latest.new.latest d v latest c.self.invariant.1 there known result later put_on c.put_mark.new.marks.items marked-own),
+      rw (written_back b.pairs.len c.put_progress.new.pairs b.pairs.items (ap length put.is ∙ length-set b.pairs.items put.place (record { version = v; rank = r; progress = Done run })) (sym c.deref_mut.ensures.len ∙ ap length c.deref_mut.ensures.value))
+          (ready-finished raw b.pairs.items b.ready.lacking.items b.ready.places.items (vec_capacity b.ready.places) b.parents.items c.self.invariant.2 v r (Done run) refl c.put_progress.new.pairs c.self.invariant.0.pairs.sorted put begun d known-one lacks
+          c.settle.new.ready.lacking.items c.settle.new.ready.places.items (vec_capacity c.settle.new.ready.places) c.put_mark.new.marks.items marked-own (c.settle.ensures.count ∙ ap length read)
+          (subst (λ (xs : List Pair). AreFree xs c.settle.new.ready.lacking.items c.settle.new.ready.places.items) read c.settle.ensures.free) settled c.settle.ensures.room),
     )
 
 pub returns : goal.returns
@@ -122,3 +146,111 @@ returns c =
     let went : record { portfolio = p; quotas = b.quotas.items; marks = c.put_mark.new.marks.items } ≡ and_then raw (mark.Finish c.args.done.contract (version c.args.done)) =
     ap (λ (ms : List Mark). record { portfolio = p; quotas = b.quotas.items; marks = ms }) marked in
     rw here (went ∙ ap (λ (h : History). and_then h (mark.Finish c.args.done.contract (version c.args.done))) c.self.view_is)
+
+pub index-requires : goal.index-requires
+index-requires c =
+    let b = c.self.inside in
+    let p : Accepted = arc_value b.portfolio in
+    let raw : History = record { portfolio = p; quotas = b.quotas.items; marks = b.marks.items } in
+    let v = c.into_parts-contract.result.1 in
+    let r = c.rank-rank.result in
+    let run = c.into_parts-contract.result.2 in
+    let d = c.into_parts-contract.result.0 in
+    let of = subst (λ (h : History). IsOf h c.args.done) (sym c.self.view_is) (record { portfolio = c.requires.portfolio; entries = c.requires.entries }) in
+    let known : d < length p.contracts.children = omega (arith, c.into_parts-contract.ensures.within, ap (λ (q : Accepted). length q.contracts.terms) of.portfolio, c.self.invariant.0.count) in
+    omega (arith, known, c.self.invariant.2.turned.count, length-child_lists b.parents.items, b.parents.ok.0)
+
+pub settle-requires-clause-exist : goal.settle-requires-clause-exist
+settle-requires-clause-exist c =
+    let b = c.self.inside in
+    let p : Accepted = arc_value b.portfolio in
+    let raw : History = record { portfolio = p; quotas = b.quotas.items; marks = b.marks.items } in
+    let v = c.into_parts-contract.result.1 in
+    let r = c.rank-rank.result in
+    let run = c.into_parts-contract.result.2 in
+    let d = c.into_parts-contract.result.0 in
+    let of = subst (λ (h : History). IsOf h c.args.done) (sym c.self.view_is) (record { portfolio = c.requires.portfolio; entries = c.requires.entries }) in
+    let known : d < length p.contracts.children = omega (arith, c.into_parts-contract.ensures.within, ap (λ (q : Accepted). length q.contracts.terms) of.portfolio, c.self.invariant.0.count) in
+    let listed : c.deref-5.result.now ≡ children_of (child_lists b.parents.items) d = c.deref-5.ensures.value ∙ sym (children_of-read b.parents.items d c.index.result.now c.index.ensures (omega (arith, known, c.self.invariant.2.turned.count, length-child_lists b.parents.items))) in
+    let all = parents-exist p.contracts.children (child_lists b.parents.items) d c.self.invariant.2.turned known in
+    subst (λ (n : ℕ). All (λ parent. parent < n) c.deref-5.result.now) (c.self.invariant.0.count ∙ ap (λ (q : Accepted). length q.contracts.terms) (sym c.deref-3.ensures))
+    (subst (λ (xs : List ℕ). All (λ parent. parent < length p.contracts.children) xs) (sym listed) all)
+
+pub settle-requires-clause-sorted : goal.settle-requires-clause-sorted
+settle-requires-clause-sorted c =
+    let b = c.self.inside in
+    let p : Accepted = arc_value b.portfolio in
+    let raw : History = record { portfolio = p; quotas = b.quotas.items; marks = b.marks.items } in
+    let v = c.into_parts-contract.result.1 in
+    let r = c.rank-rank.result in
+    let run = c.into_parts-contract.result.2 in
+    let d = c.into_parts-contract.result.0 in
+    let put = subst (λ (xs : List Pair). IsPut xs v r (Done run) c.put_progress.new.pairs) c.deref_mut.ensures.value c.put_progress.ensures in
+    let claimed = subst (λ (xs : List Pair). IsUnderWay xs v r) c.deref-2.ensures.value (c.if-not-is_claimed.ensures.yes refl) in
+    let read : c.deref-4.result.now ≡ c.put_progress.new.pairs = c.deref-4.ensures.value ∙ written_back b.pairs.len c.put_progress.new.pairs b.pairs.items (ap length put.is ∙ length-set b.pairs.items put.place (record { version = v; rank = r; progress = Done run })) (sym c.deref_mut.ensures.len ∙ ap length c.deref_mut.ensures.value) in
+    subst AreSorted (sym read) (put-sorted b.pairs.items c.put_progress.new.pairs v r (Done run) c.self.invariant.0.pairs.sorted put)
+
+pub settle-requires-clause-ranks : goal.settle-requires-clause-ranks
+settle-requires-clause-ranks c = λ k pair at.
+    let b = c.self.inside in
+    let p : Accepted = arc_value b.portfolio in
+    let raw : History = record { portfolio = p; quotas = b.quotas.items; marks = b.marks.items } in
+    let v = c.into_parts-contract.result.1 in
+    let r = c.rank-rank.result in
+    let run = c.into_parts-contract.result.2 in
+    let d = c.into_parts-contract.result.0 in
+    let put = subst (λ (xs : List Pair). IsPut xs v r (Done run) c.put_progress.new.pairs) c.deref_mut.ensures.value c.put_progress.ensures in
+    let claimed = subst (λ (xs : List Pair). IsUnderWay xs v r) c.deref-2.ensures.value (c.if-not-is_claimed.ensures.yes refl) in
+    let read : c.deref-4.result.now ≡ c.put_progress.new.pairs = c.deref-4.ensures.value ∙ written_back b.pairs.len c.put_progress.new.pairs b.pairs.items (ap length put.is ∙ length-set b.pairs.items put.place (record { version = v; rank = r; progress = Done run })) (sym c.deref_mut.ensures.len ∙ ap length c.deref_mut.ensures.value) in
+    subst (λ (q : Accepted). pair.rank < length q.order) (sym c.deref-3.ensures)
+    (put-ranks b.pairs.items c.put_progress.new.pairs v r (length p.order) (Done run) c.self.invariant.0.pairs.sorted put (λ one has. (c.self.invariant.0.pairs.each one has).rank) k pair (ap (λ (xs : List Pair). slice_get xs k) (sym read) ∙ at))
+
+pub settle-requires-clause-apart : goal.settle-requires-clause-apart
+settle-requires-clause-apart c =
+    let b = c.self.inside in
+    let p : Accepted = arc_value b.portfolio in
+    let raw : History = record { portfolio = p; quotas = b.quotas.items; marks = b.marks.items } in
+    let v = c.into_parts-contract.result.1 in
+    let r = c.rank-rank.result in
+    let run = c.into_parts-contract.result.2 in
+    let d = c.into_parts-contract.result.0 in
+    subst (λ (q : Accepted). AreApart q.order) (sym c.deref-3.ensures) (ranks-apart raw c.self.invariant.0.ordered)
+
+pub settle-requires-clause-free : goal.settle-requires-clause-free
+settle-requires-clause-free c =
+    let b = c.self.inside in
+    let p : Accepted = arc_value b.portfolio in
+    let raw : History = record { portfolio = p; quotas = b.quotas.items; marks = b.marks.items } in
+    let v = c.into_parts-contract.result.1 in
+    let r = c.rank-rank.result in
+    let run = c.into_parts-contract.result.2 in
+    let d = c.into_parts-contract.result.0 in
+    let put = subst (λ (xs : List Pair). IsPut xs v r (Done run) c.put_progress.new.pairs) c.deref_mut.ensures.value c.put_progress.ensures in
+    let claimed = subst (λ (xs : List Pair). IsUnderWay xs v r) c.deref-2.ensures.value (c.if-not-is_claimed.ensures.yes refl) in
+    let read : c.deref-4.result.now ≡ c.put_progress.new.pairs = c.deref-4.ensures.value ∙ written_back b.pairs.len c.put_progress.new.pairs b.pairs.items (ap length put.is ∙ length-set b.pairs.items put.place (record { version = v; rank = r; progress = Done run })) (sym c.deref_mut.ensures.len ∙ ap length c.deref_mut.ensures.value) in
+    let begun = begun-told b.pairs.items c.put_progress.new.pairs v r (Done run) c.self.invariant.0.pairs.sorted put claimed in
+    subst (λ (xs : List Pair). AreFree xs b.ready.lacking.items b.ready.places.items) (sym read) (put-free raw b.pairs.items b.ready.lacking.items b.ready.places.items (vec_capacity b.ready.places) b.parents.items c.self.invariant.2 v r (Done run) refl c.put_progress.new.pairs c.self.invariant.0.pairs.sorted put begun)
+
+pub settle-requires-clause-lack : goal.settle-requires-clause-lack
+settle-requires-clause-lack c =
+    let b = c.self.inside in
+    let p : Accepted = arc_value b.portfolio in
+    let raw : History = record { portfolio = p; quotas = b.quotas.items; marks = b.marks.items } in
+    let v = c.into_parts-contract.result.1 in
+    let r = c.rank-rank.result in
+    let run = c.into_parts-contract.result.2 in
+    let d = c.into_parts-contract.result.0 in
+    let ranked : slice_get p.order r ≡ Some d = ap (λ (q : Accepted). slice_get q.order r) (sym c.deref.ensures) ∙ c.rank-rank.ensures in
+    let same : contract_at raw r ≡ d = contract-is p raw r d refl ranked in
+    let put = subst (λ (xs : List Pair). IsPut xs v r (Done run) c.put_progress.new.pairs) c.deref_mut.ensures.value c.put_progress.ensures in
+    let claimed = subst (λ (xs : List Pair). IsUnderWay xs v r) c.deref-2.ensures.value (c.if-not-is_claimed.ensures.yes refl) in
+    let read : c.deref-4.result.now ≡ c.put_progress.new.pairs = c.deref-4.ensures.value ∙ written_back b.pairs.len c.put_progress.new.pairs b.pairs.items (ap length put.is ∙ length-set b.pairs.items put.place (record { version = v; rank = r; progress = Done run })) (sym c.deref_mut.ensures.len ∙ ap length c.deref_mut.ensures.value) in
+    let of = subst (λ (h : History). IsOf h c.args.done) (sym c.self.view_is) (record { portfolio = c.requires.portfolio; entries = c.requires.entries }) in
+    let known : d < length p.contracts.children = omega (arith, c.into_parts-contract.ensures.within, ap (λ (q : Accepted). length q.contracts.terms) of.portfolio, c.self.invariant.0.count) in
+    let listed : c.deref-5.result.now ≡ children_of (child_lists b.parents.items) d = c.deref-5.ensures.value ∙ sym (children_of-read b.parents.items d c.index.result.now c.index.ensures (omega (arith, known, c.self.invariant.2.turned.count, length-child_lists b.parents.items))) in
+    let lacks : has_result raw d v ≡ false = lacks-told raw d v (subst (λ (e : ℕ). is_claimed raw e v ≡ true) same (claimed-told raw _ b.items.items b.book b.callers.items b.pairs.items b.front b.owing b.given_up c.self.invariant.0 v r claimed)) in
+    let begun = begun-told b.pairs.items c.put_progress.new.pairs v r (Done run) c.self.invariant.0.pairs.sorted put claimed in
+    subst (λ (q : Accepted). Lacks q.order c.deref-5.result.now v c.deref-4.result.now b.ready.lacking.items) (sym c.deref-3.ensures)
+    (subst (λ (xs : List ℕ). Lacks p.order xs v c.deref-4.result.now b.ready.lacking.items) (sym listed)
+    (subst (λ (xs : List Pair). Lacks p.order (children_of (child_lists b.parents.items) d) v xs b.ready.lacking.items) (sym read)
+    (put-lack raw b.pairs.items b.ready.lacking.items b.ready.places.items (vec_capacity b.ready.places) b.parents.items c.self.invariant.2 v r (Done run) refl c.put_progress.new.pairs c.self.invariant.0.pairs.sorted put begun d known lacks)))

@@ -1,4 +1,4 @@
-use Rattle.std.proofs.Common.{◌≡◌, ◌+◌, ◌<◌, ◌≤◌, ℕ, List, [], ◌∷◌, ◌++◌, length, map, take, Option, Some, refl, sym, ap, subst, ◌∙◌, arith, vec_capacity}
+use Rattle.std.proofs.Common.{◌≡◌, ◌+◌, ◌-◌, ◌<◌, ◌≤◌, ℕ, List, [], ◌∷◌, ◌++◌, length, map, take, Option, Some, refl, sym, ap, subst, ◌∙◌, arith, vec_capacity}
 use Rattle.std.specs.Arc.{arc_value}
 use Rattle.std.specs.List.{slice_get}
 use Rattle.std.proofs.lemmas.List.{length-set, length-take-le}
@@ -12,7 +12,7 @@ use Rattle.act_refs.proofs.Turning.{written_back}
 use Rattle.act_board.specs.Calls.{IsOf}
 use Rattle.act_board.specs.History.{History, entries_of}
 use Rattle.act_board.specs.Kept.{ArePairs, IsListed, IsPut, IsThere, Keeps, contract_at}
-use Rattle.act_board.specs.Latest.{kept_for}
+use Rattle.act_board.specs.Latest.{cut_for, kept_for}
 use Rattle.act_board.specs.Legal.{IsLegal, IsNext}
 use Rattle.act_board.specs.Tasks.{MayGoOn}
 use Rattle.act_board.specs.declared.latest.Latest.{Latest}
@@ -23,7 +23,8 @@ use Rattle.act_board.specs.declared.pair.Pair.{Pair}
 use Rattle.act_board.specs.declared.pair.Progress.TheVariants.{Claimed}
 use Rattle.act_board.proofs.Claimed.{board-claimed, claimable-place, next-within}
 use Rattle.act_board.proofs.Told.{contract-is, there}
-use Rattle.act_board.proofs.LatestRuns.{cached-told, goes-on, kept-told, latest-quiet}
+use Rattle.act_board.proofs.LatestRuns.{cached-told, cut-told, goes-on, kept-told, latest-quiet}
+use Rattle.act_board.proofs.Readiness.{last-next, ready-claimed, ready-room}
 use Rattle.act_board.proofs.board.Board.hand_out.Goals as goal
 
 pub snapshot-requires : goal.snapshot-requires
@@ -141,6 +142,14 @@ invariant_of-self-2 c =
           (board-claimed raw _ b.items.items b.book b.callers.items b.pairs.items b.front b.owing b.given_up c.self.invariant.0 v r c.put_progress.new.pairs c.put_mark.new.marks.items (vec_capacity c.put_mark.new.marks) put
           (going, subst (λ (d : ℕ). IsNext raw d v) (sym same) next) (slice_get_within p.order r c.args.contract ranked) marked room),
       latest-quiet raw b.latest.items c.self.invariant.1 (mark.Claim c.args.contract v) c.put_mark.new.marks.items marked-own (λ d. refl) refl,
+      rw (written_back b.pairs.len c.put_progress.new.pairs b.pairs.items (ap length put.is ∙ length-set b.pairs.items put.place (record { version = v; rank = r; progress = Claimed })) (sym c.deref_mut.ensures.len ∙ ap length c.deref_mut.ensures.value))
+          (ready-room _ c.put_progress.new.pairs b.ready.lacking.items c.pop.new.self.items (vec_capacity b.ready.places) b.parents.items
+          (ready-claimed raw b.pairs.items b.ready.lacking.items b.ready.places.items (vec_capacity b.ready.places) b.parents.items c.self.invariant.2 v r Claimed refl c.put_progress.new.pairs c.self.invariant.0.pairs.sorted put c.pop.new.self.items
+          (last-next raw _ b.items.items b.book b.callers.items b.pairs.items b.front b.owing b.given_up c.self.invariant.0 b.ready.lacking.items b.ready.places.items (vec_capacity b.ready.places) b.parents.items c.self.invariant.2 (c.self.invariant.0.given_up ∙ going)
+          c.args.contract v r put.place put.pair next ranked put.was put.same_version put.same_rank)
+          (c.pop.ensures.rest ∙ ap (λ (n : ℕ). take (n - 1) b.ready.places.items) (omega (arith, b.ready.places.ok.0)))
+          (mark.Claim c.args.contract v) c.put_mark.new.marks.items marked-own (λ d w. refl))
+          (vec_capacity c.pop.new.self) (omega (arith, c.pop.ensures.capacity))),
     )
 
 -- as many entries are seen
@@ -175,3 +184,15 @@ returns-clause-kept c =
     let is = cached-told raw b.latest.items c.self.invariant.1 c.args.contract c.args.version there cached c.deref-3.result.now b.book c.deref-4.result.now c.deref-3.ensures c.self.invariant.0.entries c.deref-4.ensures.value c.in_ok-cached.ensures.cached in
     ap (λ (w : Work). w.kept) c.new-task.ensures
     ∙ (kept-told raw b.latest.items c.self.invariant.1 c.args.contract c.args.version there cached is ∙ ap (λ (h : History). kept_for h c.args.contract c.args.version) c.self.view_is)
+
+pub returns-clause-cut : goal.returns-clause-cut
+returns-clause-cut c =
+    let b = c.self.inside in
+    let raw : History = record { portfolio = arc_value b.portfolio; quotas = b.quotas.items; marks = b.marks.items } in
+    let next = subst (λ (h : History). IsNext h c.args.contract c.args.version) (sym c.self.view_is) c.requires.next in
+    let within = next-within raw _ b.items.items b.book b.callers.items b.pairs.items b.front b.owing b.given_up c.self.invariant.0 c.args.contract c.args.version next in
+    let there : c.args.contract < length b.latest.items = omega (arith, within.0, c.self.invariant.1.count) in
+    let cached = c.in_ok-cached.cached in
+    let is = cached-told raw b.latest.items c.self.invariant.1 c.args.contract c.args.version there cached c.deref-3.result.now b.book c.deref-4.result.now c.deref-3.ensures c.self.invariant.0.entries c.deref-4.ensures.value c.in_ok-cached.ensures.cached in
+    ap (λ (w : Work). w.cut) c.new-task.ensures
+    ∙ (cut-told raw b.latest.items c.self.invariant.1 c.args.contract c.args.version there cached is ∙ ap (λ (h : History). cut_for h c.args.contract c.args.version) c.self.view_is)

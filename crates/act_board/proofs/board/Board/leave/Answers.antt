@@ -9,6 +9,7 @@ use Rattle.act_board.specs.declared.mark.Mark.{Mark}
 use Rattle.act_board.specs.declared.mark.Mark.TheVariants as mark
 use Rattle.act_board.proofs.Boards.{board-left}
 use Rattle.act_board.proofs.LatestRuns.{latest-quiet}
+use Rattle.act_board.proofs.Readiness.{ready-quiet}
 use Rattle.act_board.proofs.board.Board.leave.Goals as goal
 
 pub overflow_sub-self : goal.overflow_sub-self
@@ -35,4 +36,5 @@ invariant_of-self c =
       rw (written_back b.callers.len c.set_left.new.callers b.callers.items (ap length leaves.is ∙ length-set b.callers.items (c.args.caller - 1) leaves.after) (sym c.deref_mut.ensures.len ∙ ap length c.deref_mut.ensures.value))
           (board-left _ _ b.items.items b.book b.callers.items b.pairs.items b.front b.owing b.given_up c.self.invariant.0 c.args.caller c.put_mark.new.marks.items (vec_capacity c.put_mark.new.marks) c.set_left.new.callers legal marked c.put_mark.ensures.kept leaves).1,
       latest-quiet _ _ c.self.invariant.1 (mark.Leave c.args.caller) c.put_mark.new.marks.items marked (λ d. refl) refl,
+      ready-quiet _ _ _ _ _ _ c.self.invariant.2 (mark.Leave c.args.caller) c.put_mark.new.marks.items marked (λ d w. refl),
     )

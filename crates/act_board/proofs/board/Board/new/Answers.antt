@@ -3,9 +3,12 @@ use Rattle.std.specs.Arc.{arc_value}
 use Rattle.std.specs.List.{All}
 use Rattle.act_portfolio.specs.Reading.{Accepted}
 use Rattle.act_refs.specs.Ordered.{order_of}
+use Rattle.act_refs.specs.Path.{child_lists}
 use Rattle.act_board.specs.Latest.{NoneYet}
+use Rattle.act_board.specs.Ready.{AreParents}
 use Rattle.act_board.proofs.Opened.{board-fresh}
 use Rattle.act_board.proofs.LatestRuns.{latest-fresh}
+use Rattle.act_board.proofs.Readiness.{ready-fresh}
 use Rattle.act_board.proofs.board.Board.new.Goals as goal
 
 pub invariant_of-result : goal.invariant_of-result
@@ -24,4 +27,6 @@ invariant_of-result c =
       rw (marks, c.in_ok-quotas.ensures.items, c.new.ensures.items, c.new-2.ensures, c.new-3.ensures.items)
           (board-fresh portfolio quotas (vec_capacity c.make_room.new.marks) c.in_ok-callers.callers.items ordered count numbered c.in_ok-callers.ensures c.requires.few room c.requires.fits),
       rw (marks, c.in_ok-quotas.ensures.items) (latest-fresh portfolio quotas c.in_ok-latest.latest.items none),
+      rw (marks, c.in_ok-quotas.ensures.items, c.new-3.ensures.items, c.nothing_ready.ensures.lacking, c.nothing_ready.ensures.places)
+          (ready-fresh portfolio quotas (vec_capacity c.nothing_ready.result.places) c.in_ok-parents.parents.items (subst (λ (p : Accepted). AreParents p.contracts.children (child_lists c.in_ok-parents.parents.items)) c.deref-3.ensures c.in_ok-parents.ensures)),
     )

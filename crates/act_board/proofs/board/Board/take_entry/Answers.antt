@@ -13,6 +13,7 @@ use Rattle.act_board.specs.declared.mark.Mark.TheVariants as mark
 use Rattle.act_board.proofs.Boards.{board-appended}
 use Rattle.act_board.proofs.Quotas.{book-room, some-at, some-left}
 use Rattle.act_board.proofs.LatestRuns.{latest-appended}
+use Rattle.act_board.proofs.Readiness.{ready-quiet}
 use Rattle.act_board.proofs.board.Board.take_entry.Goals as goal
 
 pub append_entry-requires-clause-room : goal.append_entry-requires-clause-room
@@ -46,6 +47,7 @@ invariant_of-self-2 c =
           legal marked room stepped c.in_ok-version.ensures.added spends
           (λ one at. some-left _ _ b.items.items b.book b.callers.items b.pairs.items b.front b.owing b.given_up c.self.invariant.0 i one legal.0.from at legal.2)),
       latest-appended _ _ c.self.invariant.1 (mark.Append i c.args.entry) c.put_entry.new.marks.items marked (λ d. refl) (record { caller = i; step = step.Append c.args.entry }) c.args.entry refl refl,
+      ready-quiet _ _ _ _ _ _ c.self.invariant.2 (mark.Append i c.args.entry) c.put_entry.new.marks.items marked (λ d w. refl),
     )
 
 pub returns-clause-version : goal.returns-clause-version

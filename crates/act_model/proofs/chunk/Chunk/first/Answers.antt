@@ -1,0 +1,15 @@
+use Rattle.std.proofs.Common.{◌≡◌, List, map, take, sym, ap, ap₂, ◌∙◌}
+use Rattle.std.proofs.lemmas.List.{take-map}
+use Rattle.act_model.specs.Chunk.{full_row}
+use Rattle.act_model.specs.declared.chunk.Rest.{Rest}
+use Rattle.act_model.specs.declared.chunk.Slim.{Slim}
+use Rattle.act_model.proofs.chunk.Chunk.first.Goals as goal
+
+pub returns : goal.returns
+returns c =
+    let chunk = c.self.inside in
+    let rows : c.in_ok-rows.rows.items ≡ take c.args.count chunk.rows.items = c.in_ok-rows.ensures.items_if_clones_equal (λ x y same. same) ∙ ap (take c.args.count) c.deref.ensures.value in
+    let rests : c.in_ok-rests.rests.items ≡ chunk.rests.items = c.in_ok-rests.ensures.items_if_clones_equal (λ x y same. same) ∙ c.deref-2.ensures.value in
+    ap₂ (λ (rests : List Rest) (rows : List Slim). map (full_row rests) rows) rests rows
+    ∙ sym (take-map (full_row chunk.rests.items) c.args.count chunk.rows.items)
+    ∙ ap (take c.args.count) c.self.view_is

@@ -1,0 +1,23 @@
+use Rattle.std.proofs.Common.{ℕ, List, ap, ◌∙◌, arith}
+use Rattle.std.specs.declared.alloc.Global.{Global}
+use Rattle.std.specs.declared.sync.Arc.{Arc}
+use Rattle.act_model.specs.Run.{Stream}
+use Rattle.act_top.specs.BigTotals.{rows_of_runs}
+use Rattle.act_top.specs.Ready.{shared_runs}
+use Rattle.act_top.proofs.Counting.{uncounted-all, uncounted-next, uncounted-none}
+use Rattle.act_top.proofs.Texts.{drop-next, drop-past}
+use Rattle.act_top.proofs.big_totals.Totals.add_runs.Goals as goal
+
+pub loop-run-init : goal.loop-run-init
+loop-run-init c = uncounted-all _ _ (omega arith)
+
+pub loop-run-preserved : goal.loop-run-preserved
+loop-run-preserved c =
+    let here = drop-next c.args.runs.now c.loop-run.run-index c.run-item.result c.loop-run-test.true c.run-item.is in
+    let rows = ap (λ (run : Stream). run.rows) (c.behind-run.view_is ∙ c.deref.ensures) in
+    uncounted-next _ _ _ _ _ _ _ c.loop-run.invariant (ap (λ (rs : List (ℕ × Arc Stream Global)). rows_of_runs (shared_runs rs)) here) (rw rows at c.in_ok-add_rows.ensures)
+
+pub returns : goal.returns
+returns c =
+    let none = drop-past c.args.runs.now c.loop-run.run-index c.loop-run-test.false in
+    uncounted-none _ _ _ _ c.loop-run.invariant (ap (λ (rs : List (ℕ × Arc Stream Global)). rows_of_runs (shared_runs rs)) none)
