@@ -1,12 +1,14 @@
 #!/usr/bin/env python3
 """Changes files of cases and examples at random, and looks for what no file should bring about.
 
-    fuzz.py PROGRAM COUNT SEED [FIRST]
+    fuzz.py PROGRAM COUNT SEED [FIRST [AUDIT]]
 
 PROGRAM is the path of the built program; COUNT inputs are tried, from number FIRST (0) on, as SEED and the number draw
 them: a portfolio and a script, one or both changed. `check`, `eval` (twice) and `desk 2` with the script once and twice
 run over each. Looked for are: a signal; more than 60 seconds; a status, or a line of a refusal, that docs/ERRORS.md
 doesn't have; a text that isn't exactly of the form of docs/TEXTS.md, with counts that fit; commands that don't agree.
+Where AUDIT is the path of the built `actus_audit`, each text has to be right by it, and wrong with a byte changed in
+its answers.
 A finding is printed with the folder of its files, and in the end how many runs had which status. Status 1: one was.
 """
 
@@ -223,7 +225,23 @@ def run(program, words, folder):
         return "time", "", ""
 
 
-def main(program, count, seed, first=0):
+def audit(program, draw, results, folder):
+    """Each text is right with its scripts, and with a byte of its answers changed it is wrong."""
+    for (status, out, _), scripts in zip((results[1], results[3], results[4]), (["s"], ["s"], ["s", "s"])):
+        if status not in (0, 8):
+            continue
+        answers = out.index("\nanswers ") + 1
+        place = draw.randrange(answers, len(out))
+        sign = draw.choice([sign for sign in "0123456789 -.\nxE" if sign != out[place]])
+        changed = out[:place] + sign + out[place + 1:]
+        right = f"right {out[answers:].split(maxsplit=2)[1]}\n"
+        for text, ended, line in ((out, 0, right), (changed, 1, r"wrong \d+\n")):
+            (folder / "t").write_bytes(text.encode("latin-1"))
+            told = run(program, ["p", "t", *scripts], folder)
+            assert told[0] == ended and re.fullmatch(line, told[1]), f"the audit of {scripts} says {told[:2]}"
+
+
+def main(program, count, seed, first=0, audited=None):
     folder, runs, found = pathlib.Path(tempfile.mkdtemp(prefix=f"fuzz-{seed}-")), collections.Counter(), 0
     for number in range(int(first), int(first) + int(count)):
         draw = random.Random(f"{seed} {number}")
@@ -237,6 +255,8 @@ def main(program, count, seed, first=0):
         runs.update(f"{status} " + " ".join(out.split()[:2] if status in REFUSED else []) for status, out, _ in results)
         try:
             look(results, script)
+            if audited:
+                audit(os.path.abspath(audited), draw, results, folder)
         except (AssertionError, ValueError) as error:
             found += 1
             print(f"{number}: {error}; {folder / str(number)}", flush=True)
@@ -246,4 +266,4 @@ def main(program, count, seed, first=0):
 
 
 if __name__ == "__main__":
-    sys.exit(main(*sys.argv[1:]) if len(sys.argv) in (4, 5) else __doc__)
+    sys.exit(main(*sys.argv[1:]) if len(sys.argv) in (4, 5, 6) else __doc__)

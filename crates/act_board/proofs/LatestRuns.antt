@@ -1,12 +1,12 @@
 -- The latest results, as a history goes on, and what an evaluation goes on from.
-use Rattle.std.proofs.Common.{◌≡◌, ◌≢◌, ℕ, ◌<◌, ◌≤◌, max, min, ◌==◌, nat_lt, true, false, ℤ, List, [], ◌∷◌, ◌++◌, length, drop, map, set, take, Option, Some, None, option_map, inl, inr, refl, sym, ap, subst, ◌∙◌, arith, eq-eqb, slice_index_or}
+use Rattle.std.proofs.Common.{◌≡◌, ◌≢◌, ℕ, ◌<◌, ◌≤◌, max, min, ◌==◌, nat_lt, true, false, ℤ, List, [], ◌∷◌, ◌++◌, length, set, take, Option, Some, None, option_map, inl, inr, refl, sym, ap, subst, ◌∙◌, arith, eq-eqb, slice_index_or}
 use Rattle.std.specs.Arc.{arc_value}
-use Rattle.std.specs.List.{filter, filter_map, reduce, slice_get}
+use Rattle.std.specs.List.{filter_map, reduce, slice_get}
 use Rattle.std.specs.declared.alloc.Global.{Global}
 use Rattle.std.specs.declared.sync.Arc.{Arc}
 use Rattle.std.proofs.Math.Nat.{max-eq_left, max-eq_right, min-eq_left, min-eq_right}
 use Rattle.std.proofs.lemmas.Bool.{cases_Bool, cases_lt, cases_order, eqb-true, lt-ltb, ltb-true}
-use Rattle.std.proofs.lemmas.List.{length-set, length_push, take-append-le, take-take}
+use Rattle.std.proofs.lemmas.List.{length-set, length_push, take-append-le}
 use Rattle.std.proofs.lemmas.List.Sums.{fold-append}
 use Rattle.std.proofs.lemmas.Option.{same_Some, slice_get-get_or}
 use Rattle.act_causality.proofs.KeptRows as causality
@@ -16,9 +16,8 @@ use Rattle.act_model.specs.Run.{Stream}
 use Rattle.act_model.specs.declared.journal.Item.{Item}
 use Rattle.act_model.specs.declared.observed.Obs.{Obs}
 use Rattle.act_portfolio.specs.Reading.{Accepted}
-use Rattle.act_profile.specs.Dates.{least}
 use Rattle.act_profile.specs.Kept.{kept_of}
-use Rattle.act_profile.specs.Reads.{cut_by, day_of_entry, touches}
+use Rattle.act_profile.specs.Reads.{cut_by}
 use Rattle.act_profile.specs.Run.{Contracts, deepest, run_of}
 use Rattle.act_swap.specs.Children.{AreInDayOrder}
 use Rattle.act_board.specs.History.{History, and_then, entries_of, item_of, version_of}
@@ -251,14 +250,9 @@ module _ (history : History) (latest : List (Option Latest)) (are : AreLatest hi
 
 -- ---- the cut
 
--- it is the same of the entries up to where it goes
-pub cut-seen : (codes contracts : List ℕ) (entries : List Obs) (u w : ℕ) → cut_by codes contracts (take w entries) u w ≡ cut_by codes contracts entries u w
-unfolding cut_by
-cut-seen codes contracts entries u w = ap (λ (xs : List Obs). least (map day_of_entry (filter (touches codes contracts) (drop u xs)))) (take-take w w entries (omega arith))
-
 -- from the smaller to the greater of two versions, of which the one or the other is the smaller
-pub cut-up : (codes contracts : List ℕ) (entries : List Obs) (u v : ℕ) → u ≤ v → cut_by codes contracts (take v entries) u v ≡ cut_by codes contracts entries (min u v) (max u v)
-cut-up codes contracts entries u v le = rw (min-eq_left le, max-eq_right le) (cut-seen codes contracts entries u v)
+pub cut-up : (codes contracts : List ℕ) (entries : List Obs) (u v : ℕ) → u ≤ v → cut_by codes contracts entries u v ≡ cut_by codes contracts entries (min u v) (max u v)
+cut-up codes contracts entries u v le = rw (min-eq_left le, max-eq_right le) refl
 
-pub cut-down : (codes contracts : List ℕ) (entries : List Obs) (u v : ℕ) → v ≤ u → cut_by codes contracts (take u entries) v u ≡ cut_by codes contracts entries (min u v) (max u v)
-cut-down codes contracts entries u v le = rw (min-eq_right le, max-eq_left le) (cut-seen codes contracts entries v u)
+pub cut-down : (codes contracts : List ℕ) (entries : List Obs) (u v : ℕ) → v ≤ u → cut_by codes contracts entries v u ≡ cut_by codes contracts entries (min u v) (max u v)
+cut-down codes contracts entries u v le = rw (min-eq_right le, max-eq_left le) refl

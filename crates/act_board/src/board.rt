@@ -6,7 +6,7 @@ use crate::caller::{
 };
 use crate::claiming::{are_ready, children_results, first_waiting, results_of};
 use crate::dropping::drop_runs;
-use crate::latest::{Latest, cached_for, none_yet, put_latest};
+use crate::latest::{Latest, cached_for, codes_read, none_yet, put_latest};
 use crate::mark::Mark;
 use crate::outcome::{AppendFault, AskFault, Claim, Collected};
 use crate::pair::{Pair, Progress, is_claimed, put_progress};
@@ -15,7 +15,7 @@ use crate::refer::parents_of;
 use crate::room::{append_entry, make_room, make_room_for_step, put_ask, put_entry, put_mark};
 use crate::wanting::{numbers, want_all};
 use crate::work::{Done, Task};
-use act_book::Book;
+use act_cut::IndexedBook;
 use act_model::{Answer, Asked, Item, MOST_ENTRIES, Obs};
 use act_num::NoMemory;
 use act_portfolio::Portfolio;
@@ -33,7 +33,7 @@ pub struct Board {
     /// The steps among the marks.
     items: Vec<Item>,
     /// The entries among the steps.
-    book: Book,
+    book: IndexedBook,
     callers: Vec<Caller>,
     /// Each contract that was wanted, at each version, by version and then by rank.
     pairs: Vec<Pair>,
@@ -106,12 +106,14 @@ impl Board {
         let quotas = Vec::from_slice(alloc, quotas)?;
         let latest = none_yet(alloc, portfolio.terms().len())?;
         let parents = parents_of(alloc, &portfolio)?;
+        let codes = codes_read(&portfolio);
+        let book = IndexedBook::new(alloc, codes, portfolio.terms().len());
         Ok(Board {
             portfolio,
             quotas,
             marks,
             items: Vec::new(alloc),
-            book: Book::new(alloc),
+            book,
             callers,
             pairs: Vec::new(alloc),
             ready: nothing_ready(alloc),
@@ -300,7 +302,7 @@ impl Board {
         let children = children_results(alloc, &self.portfolio, &self.pairs, contract, version)?;
         let cached = cached_for(
             &self.portfolio,
-            &self.book,
+            &mut self.book,
             &self.latest,
             contract,
             &seen,

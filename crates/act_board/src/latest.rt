@@ -1,17 +1,18 @@
 //! The latest result of each contract, the one at the greatest version, and what its evaluation at another version goes on from.
-ghost use Rattle.std.specs.Prelude.{◌≡◌, ◌≤◌, ◌<◌, false, length, max, min, slice_index_or, slice_set, Some, None, take, true, ◌≤ℤ◌, IfOk, IfSome};
+ghost use Rattle.std.specs.Prelude.{◌≡◌, ℕ, ◌≤◌, ◌<◌, false, length, max, min, slice_index_or, slice_set, Some, None, take, true, ◌≤ℤ◌, IfOk, IfSome};
 ghost use Rattle.std.specs.Arc.{arc_value};
-ghost use Rattle.std.specs.List.{slice_get};
+ghost use Rattle.std.specs.List.{All, slice_get};
+ghost use Rattle.std.specs.List.Sorted.{IsStrictlyIncreasing};
 ghost use Rattle.act_causality.specs.Causality.{IsLinked, IsWithinDepth};
 ghost use Rattle.act_cut.specs.Cut.{AreAscending};
 ghost use Rattle.act_date.specs.Civil.{last_day};
-ghost use Rattle.act_profile.specs.Reads.{cut_by};
+ghost use Rattle.act_profile.specs.Reads.{codes_read, cut_by};
 ghost use Rattle.act_profile.specs.Run.{deepest};
 ghost use Rattle.act_board.specs.Latest.{IsCached, NoneYet, is_later};
 ghost use Rattle.act_board.specs.declared.latest.Latest.{Latest};
 
-use act_book::{Book, Snapshot as Entries};
-use act_cut::cut;
+use act_book::Snapshot as Entries;
+use act_cut::IndexedBook;
 use act_date::Day;
 use act_model::{Reads, Run};
 use act_num::NoMemory;
@@ -49,6 +50,28 @@ pub(crate) fn none_yet(alloc: Global, contracts: usize) -> Result<Vec<Option<Lat
     Ok(latest)
 }
 
+/// How many codes there are, up to the greatest that an evaluation reads.
+pub(crate) fn codes_read(portfolio: &Portfolio) -> usize
+    ensures { (c : ℕ) → c < length portfolio.now.contracts.terms → All (λ code. code < result) (codes_read portfolio.now.contracts c) }
+{
+    let mut codes = 0;
+    for contract in 0..portfolio.terms().len() {
+        codes = codes.max(end_of(&portfolio.reads(contract as u32).codes));
+    }
+    codes
+}
+
+/// The number behind the last of ascending numbers, or 0 where there are none.
+fn end_of(numbers: &[u32]) -> usize
+    requires ascending { IsStrictlyIncreasing numbers.now }
+    ensures { All (λ number. number < result) numbers.now }
+{
+    match numbers.last() {
+        Some(last) => *last as usize + 1,
+        None => 0,
+    }
+}
+
 /// Whether a latest result is of a later version.
 fn is_later(latest: &Option<Latest>, version: u64) -> bool
     ensures { result ≡ is_later latest.now version }
@@ -82,7 +105,7 @@ pub(crate) fn put_latest(
 /// What the evaluation of a contract over the first entries of a book goes on from.
 pub(crate) fn cached_for(
     portfolio: &Portfolio,
-    book: &Book,
+    book: &mut IndexedBook,
     latest: &[Option<Latest>],
     contract: u32,
     seen: &Entries,
@@ -90,10 +113,11 @@ pub(crate) fn cached_for(
 ) -> Result<Cached, NoMemory>
     requires contract { contract < length portfolio.now.contracts.terms }
     requires count { length latest.now ≡ length portfolio.now.contracts.terms }
-    requires version { version ≤ length book.now }
-    requires seen { seen.now ≡ take version book.now }
-    requires latest { (one : Latest) → slice_get latest.now contract ≡ Some (Some one) → one.version ≤ length book.now }
-    ensures cached { IfOk result (λ cached. IsCached portfolio.now.contracts book.now contract version (slice_index_or latest.now contract None) cached) }
+    requires version { version ≤ length book.old }
+    requires seen { seen.now ≡ take version book.old }
+    requires latest { (one : Latest) → slice_get latest.now contract ≡ Some (Some one) → one.version ≤ length book.old }
+    ensures cached { IfOk result (λ cached. IsCached portfolio.now.contracts book.old contract version (slice_index_or latest.now contract None) cached) }
+    ensures same { book.new ≡ book.old }
     ensures linked { IsLinked portfolio.now.contracts }
     ensures within_depth { IsWithinDepth deepest portfolio.now.contracts contract }
 {
@@ -125,23 +149,24 @@ pub(crate) fn cached_for(
 /// The cut from the smaller to the greater of two versions of a book, of which the entries of the second are seen.
 fn cut_between(
     reads: &Reads,
-    book: &Book,
+    book: &mut IndexedBook,
     seen: &Entries,
     other: u64,
     version: u64,
 ) -> Result<Option<Day>, NoMemory>
     requires ascending { AreAscending reads.now }
-    requires other { other ≤ length book.now }
-    requires version { version ≤ length book.now }
-    requires seen { seen.now ≡ take version book.now }
-    ensures cut { IfOk result (λ cut. cut ≡ cut_by reads.now.codes reads.now.contracts book.now (min other version) (max other version)) }
+    requires other { other ≤ length book.old }
+    requires version { version ≤ length book.old }
+    requires seen { seen.now ≡ take version book.old }
+    ensures cut { IfOk result (λ cut. cut ≡ cut_by reads.now.codes reads.now.contracts book.old (min other version) (max other version)) }
     ensures in_range { IfOk result (λ cut. IfSome cut (λ day. day ≤ℤ last_day)) }
+    ensures same { book.new ≡ book.old }
 {
     if other <= version {
-        Ok(in_range(cut(reads, seen, other, version)))
+        Ok(in_range(book.cut(reads, seen, other, version)))
     } else {
         let newer = book.snapshot(other)?;
-        Ok(in_range(cut(reads, &newer, version, other)))
+        Ok(in_range(book.cut(reads, &newer, version, other)))
     }
 }
 

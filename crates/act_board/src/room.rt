@@ -5,7 +5,8 @@ ghost use Rattle.act_model.specs.declared.journal.Step.TheVariants as step;
 ghost use Rattle.act_board.specs.declared.mark.Mark.TheVariants as mark;
 
 use crate::mark::Mark;
-use act_book::{Book, BookFault};
+use act_book::BookFault;
+use act_cut::IndexedBook;
 use act_model::{Asked, Item, MOST_ENTRIES, Obs, Step};
 use act_num::NoMemory;
 use std::slice;
@@ -40,7 +41,7 @@ pub(crate) fn make_room_for_step(
 }
 
 /// Appends an entry to a book that has room for it. It answers how many there are then.
-pub(crate) fn append_entry(book: &mut Book, entry: &Obs) -> Result<u64, NoMemory>
+pub(crate) fn append_entry(book: &mut IndexedBook, entry: &Obs) -> Result<u64, NoMemory>
     requires entry { is_entry entry.now ≡ true }
     requires room { length book.old < MOST_ENTRIES }
     ensures added { IfOk result (λ _. book.new ≡ book.old ++ entry.now ∷ []) }

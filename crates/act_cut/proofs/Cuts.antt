@@ -1,6 +1,6 @@
 -- A cut that is found entry by entry.
 use Rattle.std.proofs.Common.{◌≡◌, ℕ, ◌+◌, ◌<◌, ◌≤◌, Bool, true, false, if◌then◌else◌, ℤ, List, [], ◌∷◌, ◌++◌, length, take, drop, map, slice_get, length-take, Option, Some, None, inl, inr, refl, sym, ap, ◌∙◌, arith}
-use Rattle.std.proofs.lemmas.List.{append-nil, drop_all, drop-append-le, map-append, take_more}
+use Rattle.std.proofs.lemmas.List.{append-nil, drop_all, drop-append-le, map-append, take-take, take_more}
 use Rattle.std.proofs.lemmas.List.Elements.{filter-append}
 use Rattle.std.proofs.lemmas.List.Sums.{fold-append}
 use Rattle.std.proofs.lemmas.Option.{get_or_from_slice_get, slice_get_cases}
@@ -48,3 +48,9 @@ module _ (codes contracts : List ℕ) (entries : List Obs) (u : ℕ) where
       ap (λ between. least (map day_of_entry (filter (touches codes contracts) between))) (between-more w entry order within is)
       ∙ ap (λ touching. least (map day_of_entry touching)) (filter-append (touches codes contracts) (drop u (take w entries)) (entry ∷ []))
       ∙ touching-more (filter (touches codes contracts) (drop u (take w entries))) entry (touches codes contracts entry)))
+
+-- the cut of the first entries is that of all, where it goes no further than these
+pub cut_front : (codes contracts : List ℕ) (entries : List Obs) (n u w : ℕ) → w ≤ n → cut_by codes contracts (take n entries) u w ≡ cut_by codes contracts entries u w
+unfolding cut_by
+cut_front codes contracts entries n u w le =
+    ap (λ seen. least (map day_of_entry (filter (touches codes contracts) (drop u seen)))) (take-take w n entries le)

@@ -13,3 +13,9 @@ pub record AreAscending (reads : Readings) : Type 0 where
 abbrev pub earlier : Option ℤ → ℤ → ℤ
 earlier None day = day
 earlier (Some least) day = int_min least day
+
+-- the lesser of two days, where there are two
+abbrev pub lesser : Option ℤ → Option ℤ → Option ℤ
+lesser None second = second
+lesser (Some first) None = Some first
+lesser (Some first) (Some second) = Some (int_min first second)

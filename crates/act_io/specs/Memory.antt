@@ -1,5 +1,5 @@
 -- Files and a sink in memory, whose calls of given numbers fail. Calls are counted from 1.
-use Rattle.std.specs.Prelude.{◌≡◌, ℕ, ◌==◌, nat_lt, if◌then◌else◌, Bool, List, [], ◌∷◌, ◌++◌, length, find, bytes_eq, Option, Some, None, option_map, Result, Ok, Err, Vec}
+use Rattle.std.specs.Prelude.{◌≡◌, ℕ, ◌==◌, nat_lt, if◌then◌else◌, Bool, List, [], ◌∷◌, ◌++◌, length, take, find, bytes_eq, Option, Some, None, option_map, Result, Ok, Err, Vec}
 use Rattle.std.specs.List.{list_any}
 use Rattle.std.specs.declared.alloc.Global.{Global}
 use Rattle.act_io.specs.declared.files.FetchFault.{FetchFault}
@@ -17,12 +17,13 @@ pub record FilesInMemory : Type 0 where
   pub faults : ℕ
   pub asked : List (List ℕ)
 
--- what was written, the numbers of the calls that are to fail, and the calls and faults so far
+-- what was written, the numbers of the calls that are to fail, the calls and faults so far, and how many bytes a call takes at most
 pub record SinkInMemory : Type 0 where
   pub written : List ℕ
   pub fails : List ℕ
   pub calls : ℕ
   pub faults : ℕ
+  pub most : ℕ
 
 -- the bytes of the first file of that name
 abbrev pub content_of : List (List ℕ × List ℕ) → List ℕ → Option (List ℕ)
@@ -55,14 +56,15 @@ files_after (Err NoMemory) files name = files
 files_after answer files name =
     record files { calls = next_count files.calls; faults = fetch_faults answer files.faults; asked = files.asked ++ name ∷ [] }
 
--- the answer of the next call: 0 at an empty piece, a fault where the call is to fail, and else the piece's length
+-- the answer of the next call: 0 at an empty piece, a fault where the call is to fail, and else the piece's length, or the most that is
+-- taken
 abbrev pub put_answer : SinkInMemory → List ℕ → Result ℕ PutFault
 put_answer sink piece =
-    if length piece == 0 then Ok 0 else if is_to_fail sink.fails sink.calls then Err PutFailed else Ok (length piece)
+    if length piece == 0 then Ok 0 else if is_to_fail sink.fails sink.calls then Err PutFailed else Ok (if nat_lt sink.most (length piece) then sink.most else length piece)
 
--- the sink with one more call, and with the piece or one more fault; as it was at an empty piece or where memory ran out
+-- the sink with one more call, and with what it took or one more fault; as it was at an empty piece or where memory ran out
 abbrev pub sink_after : Result ℕ PutFault → SinkInMemory → List ℕ → SinkInMemory
 sink_after (Err PutNoMemory) sink piece = sink
 sink_after (Err PutFailed) sink piece = record sink { calls = next_count sink.calls; faults = next_count sink.faults }
 sink_after (Ok n) sink piece =
-    if length piece == 0 then sink else record sink { written = sink.written ++ piece; calls = next_count sink.calls }
+    if length piece == 0 then sink else record sink { written = sink.written ++ take n piece; calls = next_count sink.calls }

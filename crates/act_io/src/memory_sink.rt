@@ -1,5 +1,6 @@
 //! A sink in memory.
 ghost use Rattle.std.specs.Prelude.{◌≡◌, ◌≢◌, ◌≤◌, [], Some, Ok, Err, length};
+ghost use Rattle.act_io.specs.Faults.{last_count};
 ghost use Rattle.act_io.specs.declared.sink.PutFault.TheVariants.{NoMemory};
 ghost use Rattle.act_io.specs.Memory.{put_answer, sink_after};
 ghost use Rattle.act_io.specs.Put.{Puts, put_faults};
@@ -9,21 +10,25 @@ use std::alloc::Global;
 use std::marker::Model;
 
 /// Keeps what is written. The calls whose numbers, from 1, are listed fail; a call with an empty piece, or
-/// that memory ran out for, has no number.
+/// that memory ran out for, has no number. A call takes its whole piece, or so many bytes as are taken at most.
 #[derive(Drop)]
 pub struct MemSink {
     written: Vec<u8>,
     fails: Vec<u64>,
     calls: u64,
     faults: u64,
+    most: usize,
 }
 
 impl Model for MemSink {
+    ghost use Rattle.std.specs.Prelude.{◌≤◌};
     ghost use Rattle.act_io.specs.Memory.{SinkInMemory};
 
     ghost Value = { SinkInMemory };
 
-    ghost view = { λ m. record { written = m.written.items; fails = m.fails.items; calls = m.calls; faults = m.faults } };
+    ghost view = { λ m. record { written = m.written.items; fails = m.fails.items; calls = m.calls; faults = m.faults; most = m.most } };
+
+    ghost invariant = { λ m. 1 ≤ m.most };
 }
 
 impl MemSink {
@@ -33,12 +38,26 @@ impl MemSink {
         ensures fails { result.fails ≡ fails.items }
         ensures calls { result.calls ≡ 0 }
         ensures faults { result.faults ≡ 0 }
+        ensures most { result.most ≡ last_count }
+    {
+        MemSink::narrow(alloc, fails, usize::MAX)
+    }
+
+    /// A sink with nothing written, of which the calls of these numbers are to fail, and each takes at most `most` bytes.
+    pub fn narrow(alloc: Global, fails: Vec<u64>, most: usize) -> MemSink
+        requires most { 1 ≤ most }
+        ensures written { result.written ≡ [] }
+        ensures fails { result.fails ≡ fails.items }
+        ensures calls { result.calls ≡ 0 }
+        ensures faults { result.faults ≡ 0 }
+        ensures most { result.most ≡ most }
     {
         MemSink {
             written: Vec::new(alloc),
             fails,
             calls: 0,
             faults: 0,
+            most,
         }
     }
 
@@ -71,10 +90,15 @@ impl Sink for MemSink {
             self.faults = self.faults.saturating_add(1);
             return Err(PutFault::Failed);
         }
-        if self.written.extend_from_slice(piece).is_err() {
+        let taken = if self.most < piece.len() {
+            self.most
+        } else {
+            piece.len()
+        };
+        if self.written.extend_from_slice(&piece[..taken]).is_err() {
             return Err(PutFault::NoMemory);
         }
         self.calls = call;
-        Ok(piece.len())
+        Ok(taken)
     }
 }

@@ -1,5 +1,5 @@
 //! The events of an option or a future: exercise and settlement beside purchase and termination.
-ghost use Rattle.std.specs.Prelude.{◌≡◌, ◌≢◌, ◌++◌, not, Ok, Err, IfOk};
+ghost use Rattle.std.specs.Prelude.{◌≡◌, ◌≢◌, ◌++◌, not, Ok, Err, IfOk, OnOk, OnErr};
 ghost use Rattle.std.specs.List.{filter, list_any};
 ghost use Rattle.act_date.specs.Civil.{last_day};
 ghost use Rattle.act_profile.specs.Exercise.{events_exercised_on, exercise_events, exercise_plan, not_before, settled_events, settlement_day};
@@ -67,17 +67,21 @@ pub(crate) fn events_exercised_on(
     Ok(events)
 }
 
-/// Adds an exercise on a day, or a credit event, and the settlement of it after a period.
+/// Adds an exercise on a day, or a credit event, and the settlement of it after a period. Where memory runs out, neither is
+/// added.
 pub fn push_exercise(
     events: &mut Vec<Event>,
     common: &Common,
     period: Cycle,
     day: Day,
 ) -> Result<(), AllocError>
-    ensures { IfOk result (λ _. events.new.items ≡ events.old.items ++ exercise_events common.now period day) }
+    ensures added { OnOk result (events.new.items ≡ events.old.items ++ exercise_events common.now period day) }
+    ensures unchanged { OnErr result (events.new.items ≡ events.old.items) }
 {
-    events.push(event_on(EventType::XD, as_scheduled(day)))?;
-    Ok(events.push(event_on(EventType::STD, settlement_day(common, period, day)))?)
+    events.reserve(2)?;
+    events.push_reserved(event_on(EventType::XD, as_scheduled(day)));
+    events.push_reserved(event_on(EventType::STD, settlement_day(common, period, day)));
+    Ok(())
 }
 
 /// Adds the event of a date that isn't shifted, where it is given.

@@ -20,12 +20,12 @@ use Rattle.act_portfolio.proofs.Ascending.{In, ascending_in, contains-from_in, f
 
 -- ---- members of lists that are joined
 
-in_append : (d : ℕ) (xs ys : List ℕ) → In d (xs ++ ys) → In d xs ⊎ In d ys
+pub in_append : (d : ℕ) (xs ys : List ℕ) → In d (xs ++ ys) → In d xs ⊎ In d ys
 in_append d [] ys is = inr is
 in_append d (x ∷ xs) ys (inl same) = inl (inl same)
 in_append d (x ∷ xs) ys (inr later) = elim (in_append d xs ys later) [ inl first ↦ inl (inr first) | inr second ↦ inr second ]
 
-append_in : (d : ℕ) (xs ys : List ℕ) → In d xs ⊎ In d ys → In d (xs ++ ys)
+pub append_in : (d : ℕ) (xs ys : List ℕ) → In d xs ⊎ In d ys → In d (xs ++ ys)
 append_in d [] ys (inl is) = absurd is
 append_in d [] ys (inr is) = is
 append_in d (x ∷ xs) ys (inl (inl same)) = inl same

@@ -17,6 +17,7 @@ pub mod Numbered
 pub mod PlannedSoFar
 pub mod Ranked
 pub mod ReadSoFar
+pub mod Reached
 pub mod Shadowed
 pub mod Unchanged
 pub mod Unrolling

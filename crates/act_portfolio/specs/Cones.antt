@@ -1,6 +1,6 @@
 -- What is kept of each contract of a portfolio, and how it is found.
-use Rattle.std.specs.Prelude.{◌≡◌, ℕ, ◌*◌, ◌+◌, ◌<◌, ◌≤◌, List, length, map, slice_get, slice_index, Some}
-use Rattle.std.specs.List.{All, filter_map, flat_map, range_with_len}
+use Rattle.std.specs.Prelude.{◌≡◌, ℕ, ◌*◌, ◌+◌, ◌<◌, ◌≤◌, Bool, true, false, List, get_or, length, map, slice_get, slice_index, Some}
+use Rattle.std.specs.List.{All, Contains, filter_map, flat_map, range_with_len}
 use Rattle.act_model.specs.Limits.{most_contracts, most_dates}
 use Rattle.act_model.specs.Reads.{Readings}
 use Rattle.act_profile.specs.Contract.{observed_as}
@@ -43,3 +43,12 @@ pub record AreCones (contracts : Contracts) (counted weighed : List ℕ) (readin
 pub record AreRanks (contracts : ℕ) (order ranks : List ℕ) : Type 0 where
   pub count : length ranks ≡ contracts
   pub each : (c : ℕ) → c < contracts → slice_get order (slice_index ranks c) ≡ Some c
+
+-- those that are marked are in the list
+abbrev pub AreSeen : List Bool → List ℕ → Type 0
+AreSeen seen numbers = (c : ℕ) → get_or seen c false ≡ true → Contains numbers c
+
+-- the same numbers are in both lists
+pub record HaveSame (xs ys : List ℕ) : Type 0 where
+  pub to : (c : ℕ) → Contains xs c → Contains ys c
+  pub from : (c : ℕ) → Contains ys c → Contains xs c

@@ -1,10 +1,10 @@
 //! What the evaluation of each contract reads, and what it weighs: over the contract and all that it reaches.
-ghost use Rattle.std.specs.Prelude.{◌≡◌, ℕ, ◌+◌, ◌<◌, ◌≤◌, [], ◌∷◌, Ok, IfOk, length, map, replicate, get_or, slice_index};
+ghost use Rattle.std.specs.Prelude.{◌≡◌, ℕ, ◌+◌, ◌<◌, ◌≤◌, [], ◌∷◌, ◌++◌, Ok, IfOk, length, map, replicate, get_or, slice_index};
 ghost use Rattle.std.specs.List.{All, flat_map, sum_by};
 ghost use Rattle.act_profile.specs.Contract.{observed_as};
 ghost use Rattle.act_profile.specs.Reads.{ascending, cone_of};
 ghost use Rattle.act_refs.specs.Ordered.{order_of};
-ghost use Rattle.act_portfolio.specs.Cones.{AreCones, most_counted, most_weight, numbers_of, reads_over};
+ghost use Rattle.act_portfolio.specs.Cones.{AreCones, AreSeen, HaveSame, most_counted, most_weight, numbers_of, reads_over};
 ghost use Rattle.act_portfolio.specs.Known.{HavePlans};
 
 use crate::codes::add_codes;
@@ -45,7 +45,7 @@ pub(crate) fn all_cones(
 }
 
 /// The cone of each contract: the contract and all that it reaches, ascending. It takes time in proportion to the sizes of
-/// the children's cones.
+/// the children's cones, and memory in proportion to the cones.
 fn each_cone(alloc: Global, contracts: &Contracts, order: &[u32]) -> Result<Vec<Vec<u32>>, NoMemory>
     requires ordered { order_of contracts.now.children ≡ Ok order.now }
     requires children { All (All (λ child. child < length contracts.now.children)) contracts.now.children }
@@ -99,7 +99,7 @@ fn distinct(alloc: Global, numbers: &[u32]) -> Result<Vec<u32>, NoMemory>
     Ok(ascending(distinct))
 }
 
-/// A contract and the cones of others, ascending.
+/// A contract and the cones of others, ascending. What was reached is marked, so that it is kept once.
 fn joined_cones(
     alloc: Global,
     children: &[u32],
@@ -110,12 +110,30 @@ fn joined_cones(
     ensures { IfOk result (λ cone. cone.items
         ≡ ascending (contract ∷ flat_map (λ child. get_or (map (λ c. c.items) cones.now) child []) children.now)) }
 {
+    let mut seen = vec![in alloc; false; cones.len()]?;
     let mut reached = Vec::new(alloc);
     reached.push(contract)?;
     for child in children {
-        reached.extend_from_slice(&cones[*child as usize])?;
+        reach(&mut seen, &mut reached, &cones[*child as usize])?;
     }
     Ok(ascending(reached))
+}
+
+/// Puts the numbers of a cone behind those that were reached, but for those that are marked as reached; the others are marked.
+fn reach(seen: &mut Vec<bool>, reached: &mut Vec<u32>, cone: &[u32]) -> Result<(), NoMemory>
+    requires seen { AreSeen seen.old.items reached.old.items }
+    ensures seen { IfOk result (λ _. AreSeen seen.new.items reached.new.items) }
+    ensures reached { IfOk result (λ _. HaveSame reached.new.items (reached.old.items ++ cone.now)) }
+{
+    for one in cone {
+        if *one as usize >= seen.len() {
+            reached.push(*one)?;
+        } else if !seen[*one as usize] {
+            reached.push(*one)?;
+            seen[*one as usize] = true;
+        }
+    }
+    Ok(())
 }
 
 /// The numbers of a list, ascending, each once.

@@ -1,5 +1,5 @@
 //! The contracts of a list, each by its terms.
-ghost use Rattle.std.specs.Prelude.{◌≡◌, ◌^◌, ◌<◌, ◌≤◌, [], Ok, Err, IfOk, IfErr, IfSome, OnOk, length, map, zero};
+ghost use Rattle.std.specs.Prelude.{◌≡◌, ◌^◌, ◌<◌, ◌≤◌, [], Ok, Err, IfOk, IfErr, IfSome, length, map, zero};
 ghost use Rattle.std.specs.List.{All};
 ghost use Rattle.serde_json.specs.View.{view};
 ghost use Rattle.act_model.specs.Names.{no_names};
@@ -10,50 +10,59 @@ ghost use Rattle.act_portfolio.specs.Refusal.{refusal_of, refused_terms, refusin
 
 use crate::fault::{PortfolioFault, refused_terms};
 use act_model::Names;
-use act_terms::{NamedTerms, read_contract};
+use act_terms::{ContractRead, NamedTerms, read_contract};
 use serde_json::Value;
 use std::alloc::Global;
 
-/// The names, the terms and the references of contracts, in their order. What the terms and the references name is added to
-/// the names.
+/// Contracts as they were read, and the names that they have.
+#[derive(Drop)]
+pub(crate) struct ContractsRead {
+    /// The name, the terms and the references of each, in their order.
+    pub(crate) named: Vec<NamedTerms>,
+    /// What the terms and the references name.
+    pub(crate) names: Names,
+}
+
+/// The names, the terms and the references of contracts, in their order. What the terms and the references name is numbered
+/// among the names.
 pub(crate) fn read_contracts(
     alloc: Global,
     contracts: &[&Value],
-    names: &mut Names,
-) -> Result<Vec<NamedTerms>, PortfolioFault>
-    requires few { length contracts.now ≤ 2 ^ 28 }
-    requires fresh { names.old ≡ no_names }
-    ensures read { IfOk result (λ named.
-        contracts_from zero no_names (map (λ c. view c.now) contracts.now) ≡ Ok (named.items, names.new)) }
+) -> Result<ContractsRead, PortfolioFault>
+    requires { length contracts.now ≤ 2 ^ 28 }
+    ensures read { IfOk result (λ read.
+        contracts_from zero no_names (map (λ c. view c.now) contracts.now) ≡ Ok (read.named.items, read.names)) }
     ensures refused { IfErr result (λ fault. IfSome (refusal_of fault) (λ refusal.
         contracts_from zero no_names (map (λ c. view c.now) contracts.now) ≡ Err refusal)) }
-    ensures contracts { IfOk result (λ named. All IsContract named.items) }
-    ensures unnamed { OnOk result (names.new.contracts ≡ []) }
+    ensures contracts { IfOk result (λ read. All IsContract read.named.items) }
+    ensures unnamed { IfOk result (λ read. read.names.contracts ≡ []) }
 {
     let mut named = Vec::with_capacity(alloc, contracts.len())?;
+    let mut names = Names::new(alloc);
     for (number, contract) in contracts.iter().enumerate() {
         let next = next_contract(alloc, contract, number as u32, names)?;
-        named.push(next)?;
+        names = next.names;
+        named.push(next.named)?;
     }
-    Ok(named)
+    Ok(ContractsRead { named, names })
 }
 
-/// The contract of that number.
+/// The contract of that number, and the names behind it.
 fn next_contract(
     alloc: Global,
     contract: &Value,
     number: u32,
-    names: &mut Names,
-) -> Result<NamedTerms, PortfolioFault>
-    requires number { number < 2 ^ 28 }
-    ensures read { IfOk result (λ named. contract_of number names.old (view contract.now) ≡ Ok (named, names.new)) }
+    names: Names,
+) -> Result<ContractRead, PortfolioFault>
+    requires { number < 2 ^ 28 }
+    ensures read { IfOk result (λ read. contract_of number names (view contract.now) ≡ Ok (read.named, read.names)) }
     ensures refused { IfErr result (λ fault. IfSome (refusal_of fault) (λ refusal.
-        refusing (refused_terms number) (contract_of number names.old (view contract.now)) ≡ Err refusal)) }
-    ensures contract { IfOk result (λ named. IsContract named) }
-    ensures contracts { OnOk result (names.new.contracts ≡ names.old.contracts) }
+        refusing (refused_terms number) (contract_of number names (view contract.now)) ≡ Err refusal)) }
+    ensures contract { IfOk result (λ read. IsContract read.named) }
+    ensures contracts { IfOk result (λ read. read.names.contracts ≡ names.contracts) }
 {
     match read_contract(alloc, contract, number, names) {
-        Ok(named) => Ok(named),
+        Ok(read) => Ok(read),
         Err(fault) => Err(refused_terms(alloc, number, fault)),
     }
 }

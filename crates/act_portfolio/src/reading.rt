@@ -8,7 +8,7 @@ ghost use Rattle.act_portfolio.specs.Links.{first_unfit};
 ghost use Rattle.act_portfolio.specs.Reading.{list_of, portfolio_listed, portfolio_of};
 ghost use Rattle.act_portfolio.specs.Refusal.{no_json, refusal_of, refusing};
 
-use crate::contracts::read_contracts;
+use crate::contracts::{ContractsRead, read_contracts};
 use crate::fault::{PortfolioFault, refused};
 use crate::graph::{bound_portfolio, graph_of};
 use crate::limit::within_limit;
@@ -71,8 +71,7 @@ fn portfolio_listed(alloc: Global, contracts: &[&Value]) -> Result<Portfolio, Po
     if contracts.len() > TOO_MANY {
         return Err(PortfolioFault::NoMemory);
     }
-    let mut names = Names::new(alloc);
-    let named = read_contracts(alloc, contracts, &mut names)?;
+    let ContractsRead { named, mut names } = read_contracts(alloc, contracts)?;
     check(alloc, &named, &mut names)?;
     let unused = unused_lists(alloc, contracts, &named)?;
     let graph = graph_of(alloc, &names, &named)?;

@@ -1,12 +1,12 @@
 -- What a reader of lines answers. This profile's own.
-use Rattle.std.specs.Prelude.{◌≡◌, ℕ, ◌+◌, ◌<◌, ⊤, true, false, nat_eq, Bool, List, [], ◌∷◌, ◌++◌, length, codes, Result, Ok, Err}
+use Rattle.std.specs.Prelude.{◌≡◌, ℕ, ◌+◌, ◌<◌, ⊤, true, false, nat_eq, Bool, List, [], ◌∷◌, ◌++◌, length, codes, Option, Some, None, Result, Ok, Err}
 use Rattle.std.specs.List.{ends_with}
 use Rattle.act_model.specs.Names.{NameLists}
 use Rattle.act_model.specs.declared.journal.Item.{Item}
 use Rattle.act_print.specs.Faults.{lines_of}
 use Rattle.act_print.specs.LineWords.{item_of_line}
 use Rattle.act_print.specs.Printed.{Transcript}
-use Rattle.act_print.specs.Reading.{Lines, line_by, rows_at, with_row}
+use Rattle.act_print.specs.Reading.{Lines, journal_at, line_by, rows_at, with_row}
 use Rattle.act_print.specs.declared.fault.TextFault.{TextFault}
 use Rattle.act_print.specs.declared.fault.TextFault.TheVariants.{NotText, NoMemory}
 use Rattle.act_print.specs.declared.stop.Stop.{Stop}
@@ -48,3 +48,8 @@ is_ended bytes = ends_with nat_eq bytes (codes "\n")
 abbrev pub Finishes : List ℕ → Lines → Transcript → Result Transcript TextFault → Type 0
 Finishes bytes left read (Ok printed) = (printed ≡ read) × (left ≡ []) × (is_ended bytes ≡ true)
 Finishes bytes left read (Err fault) = PointsAt (lines_of bytes) left fault × (left ≡ [] → is_ended bytes ≡ false)
+
+-- the lines begin with a journal of these items, or with none
+abbrev pub BeginsWithJournal : NameLists → List ℕ → Option (List Item) → Type 0
+BeginsWithJournal names bytes (Some items) = (rest : Lines) × (journal_at names (lines_of bytes) ≡ Ok (items, rest))
+BeginsWithJournal names bytes None = (left : Lines) × (journal_at names (lines_of bytes) ≡ Err left)

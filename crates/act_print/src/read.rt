@@ -1,9 +1,9 @@
 //! Reading a text.
-ghost use Rattle.std.specs.Prelude.{◌≡◌, ℕ, ◌-◌, ◌^◌, ◌<◌, ◌≤◌, length, List, IfOk, IfErr};
+ghost use Rattle.std.specs.Prelude.{◌≡◌, ℕ, ◌-◌, ◌^◌, ◌<◌, ◌≤◌, length, List, IfOk, IfErr, option_map};
 ghost use Rattle.act_model.specs.Names.{NameLists};
 ghost use Rattle.act_print.specs.Conditions.{ContractsNamed};
 ghost use Rattle.act_print.specs.Faults.{IsFaultOf, IsTextOf, lines_of};
-ghost use Rattle.act_print.specs.Giving.{Finishes, PointsAt};
+ghost use Rattle.act_print.specs.Giving.{BeginsWithJournal, Finishes, PointsAt};
 ghost use Rattle.act_print.specs.Printed.{Transcript};
 
 use crate::TextFault;
@@ -12,7 +12,8 @@ use crate::printed::Printed;
 use crate::reader::Reader;
 use crate::stop::Stop;
 use crate::transcript::count_contracts;
-use act_model::Names;
+use act_model::{Item, Names};
+use act_num::NoMemory;
 use std::alloc::Global;
 
 /// What is printed in a text of a journal and its answers, from `journal` on: the one value that has this text. The
@@ -36,6 +37,23 @@ pub fn read_text(alloc: Global, names: &Names, bytes: &[u8]) -> Result<Printed, 
         Ok(printed) => finish(bytes, &reader, printed),
         Err(Stop::Wrong) => Err(fault_at(bytes, &reader)),
         Err(Stop::NoMemory) => Err(TextFault::NoMemory),
+    }
+}
+
+/// The items of the journal with which bytes begin, from `journal` on, or None where they begin with none. What stands behind it
+/// is not looked at.
+pub fn read_journal(
+    alloc: Global,
+    names: &Names,
+    bytes: &[u8],
+) -> Result<Option<Vec<Item>>, NoMemory>
+    ensures { IfOk result (λ found. BeginsWithJournal names.now bytes.now (option_map (λ items. items.items) found)) }
+{
+    let mut reader = Reader::new(bytes);
+    match reader.journal(alloc, names) {
+        Ok(items) => Ok(Some(items)),
+        Err(Stop::Wrong) => Ok(None),
+        Err(Stop::NoMemory) => Err(NoMemory),
     }
 }
 

@@ -31,7 +31,7 @@ pub(crate) fn count_contracts(names: &Names) -> Result<u32, NoMemory>
 impl<'a> Reader<'a> {
     /// A journal.
     #[tactic(auto, unfolding(crate::specs::Reading::journal_at))]
-    fn journal(&mut self, alloc: Global, names: &Names) -> Result<Vec<Item>, Stop>
+    pub(crate) fn journal(&mut self, alloc: Global, names: &Names) -> Result<Vec<Item>, Stop>
         ensures { Gives (λ items. items.items) result self.new (journal_at names.now self.old) }
     {
         let count = self.count()?;

@@ -15,7 +15,7 @@ use act_model::{
 };
 use act_num::{Fixed, NoMemory};
 use act_option::{exercised_events, settled_events};
-use act_swap::add_rows_of_children;
+use act_swap::with_rows_of_children;
 use std::alloc::Global;
 use std::sync::Arc;
 
@@ -33,8 +33,8 @@ pub(crate) fn events_of<O: Observed>(
     ensures { IfOk result (λ events. events.items
         ≡ events_of terms.now plan.now (O.entries seen.now) (map arc_value children.now)) }
 {
-    let mut events = own_events(alloc, terms, plan, seen)?;
-    add_rows_of_children(&mut events, &terms.common, &terms.kind, children)?;
+    let own = own_events(alloc, terms, plan, seen)?;
+    let mut events = with_rows_of_children(own, &terms.common, &terms.kind, children)?;
     put_in_order(&mut events)?;
     Ok(with_exercise(&terms.kind, retain_counting(terms, events)))
 }

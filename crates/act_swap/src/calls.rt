@@ -118,24 +118,25 @@ fn currency_of_row(common: &Common, row: Option<Row>) -> u32
     }
 }
 
-/// Adds the events that a contract makes of its children's rows, in the order of the first leg's rows and then of the
-/// second's: of a SWAPS the rows of both legs after the status date, of which interest of one day and currency may be
-/// paid net, and of a CAPFL the interest of its underlying and of its shadow. Another kind makes none. It takes time in
+/// Events, and behind them those that a contract makes of its children's rows, in the order of the first leg's rows and then
+/// of the second's: of a SWAPS the rows of both legs after the status date, of which interest of one day and currency may
+/// be paid net, and of a CAPFL the interest of its underlying and of its shadow. Another kind makes none. It takes time in
 /// proportion to the rows, where few of them are of one day. `NoMemory` comes too where a child has 2^32 rows or more,
-/// which can't be numbered; after it some events may have been added.
-pub fn add_rows_of_children(
-    events: &mut Vec<Event>,
+/// which can't be numbered; with it the events are gone.
+pub fn with_rows_of_children(
+    mut events: Vec<Event>,
     common: &Common,
     kind: &Kind,
     children: &[Arc<Run, Global>],
-) -> Result<(), NoMemory>
+) -> Result<Vec<Event>, NoMemory>
     requires { RunsAreInDayOrder (map arc_value children.now) }
-    ensures { IfOk result (λ _. events.new.items
-        ≡ events.old.items ++ events_of_children common.now kind.now (map arc_value children.now)) }
+    ensures { IfOk result (λ all. all.items
+        ≡ events.items ++ events_of_children common.now kind.now (map arc_value children.now)) }
 {
     match kind {
-        Kind::SWAPS(swaps) => add_swaps_events(events, common, swaps, children),
-        Kind::CAPFL(capfl) => add_capfl_events(events, common, capfl, children),
-        _ => Ok(()),
+        Kind::SWAPS(swaps) => add_swaps_events(&mut events, common, swaps, children)?,
+        Kind::CAPFL(capfl) => add_capfl_events(&mut events, common, capfl, children)?,
+        _ => {}
     }
+    Ok(events)
 }

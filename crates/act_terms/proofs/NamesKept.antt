@@ -1,5 +1,5 @@
 -- The terms of a contract name no contracts: whatever is read, the names of contracts stay.
-use Rattle.std.proofs.Common.{◌≡◌, ℕ, ℤ, ◌||◌, Bool, true, false, if◌then◌else◌, List, [], ◌∷◌, codes, is_some, unwrap_or, Option, Some, None, Result, Ok, Err, IfOk, OnOk, refl, ◌∙◌}
+use Rattle.std.proofs.Common.{◌≡◌, ℕ, ℤ, ◌||◌, Bool, true, false, if◌then◌else◌, List, [], ◌∷◌, codes, is_some, unwrap_or, Option, Some, None, Result, Ok, Err, IfOk, refl, ◌∙◌}
 use Rattle.std.proofs.lemmas.Result.{IfOk-at_ok}
 use Rattle.std.specs.Str.{bytes_eq}
 use Rattle.act_model.specs.Names.{NameLists}
@@ -259,6 +259,5 @@ named_keep number names contract =
     naming names.contracts _ (references_of type terms.1 contract) (type_keeps names.contracts terms.1 at contract type) (λ references at. at))))
 
 -- a contract that is read leaves the names of contracts as they were
-pub contracts_kept : (number : ℕ) (names after : NameLists) (contract : Data) (result : Result NamedTerms TermsFault) → IfOk result (λ named. named_terms_of number names contract ≡ Ok (named, after)) → OnOk result (after.contracts ≡ names.contracts)
-contracts_kept number names after contract (Ok named) is = IfOk-at_ok (λ r. r.1.contracts ≡ names.contracts) is (named_keep number names contract)
-contracts_kept number names after contract (Err fault) is = tt
+pub contracts_kept : (number : ℕ) (names after : NameLists) (contract : Data) (named : NamedTerms) → named_terms_of number names contract ≡ Ok (named, after) → after.contracts ≡ names.contracts
+contracts_kept number names after contract named is = IfOk-at_ok (λ r. r.1.contracts ≡ names.contracts) is (named_keep number names contract)

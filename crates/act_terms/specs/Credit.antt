@@ -1,6 +1,6 @@
 -- The terms of guarantees and collateral: CEG and CEC. ACTUS data dictionary; what is required, the defaults and the shapes of creditEventTypeCovered are
 -- this profile's own. What they cover and what covers it is none of these terms: it is bound to them once all contracts are read, and is empty before.
-use Rattle.std.specs.Prelude.{ℕ, if◌then◌else◌, List, [], ◌∷◌, codes, unwrap_or, Option, Some, None, Result, Ok}
+use Rattle.std.specs.Prelude.{List, [], ◌∷◌, codes, unwrap_or, Option, Some, None, Result, Ok}
 use Rattle.act_num.specs.Number.{one}
 use Rattle.std.specs.Prelude.{pos}
 use Rattle.act_model.specs.Terms.{Collateral, Guarantee}

@@ -1,6 +1,6 @@
 -- The terms of swaps, caps and floors: SWPPV, SWAPS and CAPFL. ACTUS data dictionary; what is required, the defaults and the bounds are this profile's
 -- own. What SWAPS and CAPFL refer to is none of these terms: it is bound to them once all contracts are read, and is 0 before.
-use Rattle.std.specs.Prelude.{ℕ, ℤ, pos, ◌||◌, Bool, true, false, codes, is_some, unwrap_or, if◌then◌else◌, Option, Some, None, Result, Ok}
+use Rattle.std.specs.Prelude.{ℤ, pos, ◌||◌, false, codes, is_some, unwrap_or, if◌then◌else◌, Result, Ok}
 use Rattle.act_date.specs.declared.day_count.DayCount.TheVariants.{Aa}
 use Rattle.act_json.specs.Fields.{decimal_field}
 use Rattle.act_model.specs.Names.{NameLists}

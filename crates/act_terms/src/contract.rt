@@ -1,5 +1,5 @@
 //! A contract of a portfolio file.
-ghost use Rattle.std.specs.Prelude.{◌≡◌, ◌≢◌, Ok, Err, IfOk, IfErr, OnOk, codes, true, false};
+ghost use Rattle.std.specs.Prelude.{◌≡◌, ◌≢◌, Ok, Err, IfOk, IfErr, codes, true, false};
 ghost use Rattle.std.specs.Str.{bytes_eq};
 ghost use Rattle.serde_json.specs.View.{view};
 ghost use Rattle.act_profile.specs.Built.{IsBuilt};
@@ -45,35 +45,45 @@ impl Model for NamedTerms {
     ghost view = { λ c. record { id = string_bytes c.id; terms = c.terms; references = c.references.items } };
 }
 
+/// A contract as it was read, and the names behind it.
+#[derive(Drop)]
+pub struct ContractRead {
+    /// The contract's name, its terms and its references.
+    pub named: NamedTerms,
+    /// The names of before, with the codes and currencies that it names behind them.
+    pub names: Names,
+}
+
 /// The contract of that number, from its JSON object: its name, its terms, each by its name in the dictionary, and what it
 /// refers to. Names that aren't terms of its kind are passed over; [`unused_names`] has them. The codes and currencies that
-/// the terms and the references name have their numbers among `names`, behind those of the contracts before. The contract's
-/// own name isn't added.
+/// the terms and the references name have their numbers among the names, behind those of the contracts before. The
+/// contract's own name isn't added.
 ///
 /// Refused where a term is, with the first one in the order of this profile's tables: first the terms that every
 /// contract has, then those of its kind; that a penalty of lost interest needs the code of the reset rate is tried
 /// behind the terms that all loans have, and before those of redemption, and the structure comes behind all other terms.
 /// Contracts that stand in the structure aren't read here; [`in_portfolio_order`](crate::in_portfolio_order) has them. NoMemory where memory runs
-/// out. Where it isn't read, codes and currencies may have been added all the same.
+/// out. Where it isn't read, the names are gone too.
 #[tactic(auto, unfolding(crate::specs::Contract::contract_of))]
 pub fn read_contract(
     alloc: Global,
     contract: &Value,
     number: u32,
-    names: &mut Names,
-) -> Result<NamedTerms, TermsFault>
-    ensures read { IfOk result (λ named. contract_of number names.old (view contract.now) ≡ Ok (named, names.new)) }
+    mut names: Names,
+) -> Result<ContractRead, TermsFault>
+    ensures read { IfOk result (λ read. contract_of number names (view contract.now) ≡ Ok (read.named, read.names)) }
     ensures refused { IfErr result (λ fault. fault ≢ TermsFault.NoMemory
-        → contract_of number names.old (view contract.now) ≡ Err fault) }
-    ensures name { IfOk result (λ named. is_name named.id ≡ true) }
-    ensures no_star { IfOk result (λ named. bytes_eq named.id (codes "*") ≡ false) }
-    ensures built { IfOk result (λ named. IsBuilt named.terms.kind) }
-    ensures contracts { OnOk result (names.new.contracts ≡ names.old.contracts) }
+        → contract_of number names (view contract.now) ≡ Err fault) }
+    ensures name { IfOk result (λ read. is_name read.named.id ≡ true) }
+    ensures no_star { IfOk result (λ read. bytes_eq read.named.id (codes "*") ≡ false) }
+    ensures built { IfOk result (λ read. IsBuilt read.named.terms.kind) }
+    ensures contracts { IfOk result (λ read. read.names.contracts ≡ names.contracts) }
 {
     if !contract.is_object() {
         return Err(refused(TermCause::WrongShape, "-"));
     }
-    read_named_terms(alloc, contract, number, names)
+    let named = read_named_terms(alloc, contract, number, &mut names)?;
+    Ok(ContractRead { named, names })
 }
 
 /// The name, the terms and the references of an object.

@@ -24,7 +24,7 @@ mod structure;
 mod swap;
 mod used;
 
-pub use contract::{NamedTerms, read_contract};
+pub use contract::{ContractRead, NamedTerms, read_contract};
 pub use fault::{TermCause, TermFault, TermsFault};
 pub use inline::in_portfolio_order;
 pub use reference::{Reference, ReferenceRole, Referred};

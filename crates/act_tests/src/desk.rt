@@ -355,6 +355,7 @@ fn refuses_other_words(rt: HostRuntime) {
         "desk 65 p s",
         "desk 01 p s",
         "desk 1 p",
+        "desk 1 p s s s s s s s s s s s s s s s s s",
         "big 0 1",
         "big 1001 1",
         "big 01 1",
@@ -366,6 +367,19 @@ fn refuses_other_words(rt: HostRuntime) {
         let (ran, out) = run(&rt, rt.alloc(), command, &texts, &NoGate);
         check_end(&rt, command, &ran, 2, out.bytes(), USAGE);
         assert!(rt; ran.board.is_none(), "{command}");
+    }
+}
+
+#[test]
+fn takes_sixteen_scripts(rt: HostRuntime) {
+    let texts = [("p", R1), ("s", "")];
+    for command in &[
+        "desk 1 p s s s s s s s s s s s s s s s s",
+        "desk 64 p s s s s s s s s s s s s s s s s",
+    ] {
+        let (ran, out) = run(&rt, rt.alloc(), command, &texts, &NoGate);
+        check_end(&rt, command, &ran, 0, out.bytes(), "journal 0\nanswers 0\n");
+        assert!(rt; ran.board.is_some(), "{command}");
     }
 }
 
@@ -429,6 +443,7 @@ fn writes_the_totals_of_a_large_run(rt: HostRuntime) {
         ("big 1 4", BIG_1),
         ("big 3 1", BIG_3),
         ("big 3 4", BIG_3),
+        ("big 1000 1", BIG_1000),
         ("big 1000 4", BIG_1000),
     ] {
         let (ran, out) = run_any(&rt, rt.alloc(), command, &[]);

@@ -1,5 +1,5 @@
 //! Lines of rows that are kept for when they come again.
-ghost use Rattle.std.specs.Prelude.{◌≡◌, ◌++◌, ◌∷◌, [], ◌≤◌, ◌<◌, length, map, take, Some, OnOk, OnErr, slice_get};
+ghost use Rattle.std.specs.Prelude.{◌≡◌, ◌⊎◌, ℕ, ◌++◌, ◌∷◌, [], ◌≤◌, ◌<◌, length, map, take, Some, OnOk, OnErr, slice_get};
 ghost use Rattle.std.specs.Arc.{arc_value};
 ghost use Rattle.act_text.specs.Kept.{AreLines, ArePrintedAlike, start_at};
 ghost use Rattle.act_text.specs.Lines.{row_text};
@@ -64,10 +64,12 @@ impl<'a> RowLines<'a> {
     }
 
     /// Makes them the lines of a run's rows. Those of the first rows stay, as far as rows are printed alike. Where memory runs
-    /// out, there are the lines of fewer rows.
+    /// out, they are the lines of the run's first rows, or, where the run couldn't be shared, all as before.
     pub fn renew(&mut self, run: &Arc<Run, Global>) -> Result<(), NoMemory>
         ensures names { self.new.names ≡ self.old.names }
         ensures rows { OnOk result (self.new.rows ≡ (arc_value run.now).rows) }
+        ensures fewer { OnErr result ((self.new ≡ self.old)
+            ⊎ ((count : ℕ) × (self.new.rows ≡ take count (arc_value run.now).rows))) }
     {
         let kept = Arc::try_clone(run)?;
         let same = self.count_alike(&run.rows);

@@ -25,7 +25,7 @@ use std::sync::ledger::Ledger;
 
 impl Evaluation {
     /// Writes the journal of the script, its answers and the line of its work, and answers whether each block ends in `end`.
-    pub(crate) fn write<K: Sink, L: Ledger>(
+    pub fn write<K: Sink, L: Ledger>(
         &self,
         alloc: Global,
         out: &mut K,
@@ -47,7 +47,7 @@ impl Evaluation {
 
     /// Writes the journal of the script and its answers, counts the rows that are computed for them to `work`, and answers
     /// whether each block ends in `end`. `line` is room for a line.
-    fn write_output<K: Sink, L: Ledger>(
+    pub fn write_output<K: Sink, L: Ledger>(
         &self,
         alloc: Global,
         out: &mut K,
@@ -69,7 +69,7 @@ impl Evaluation {
     }
 
     /// A board on which nothing has happened, for the one caller.
-    fn board(&self, alloc: Global) -> Result<Board, NoMemory>
+    pub fn board(&self, alloc: Global) -> Result<Board, NoMemory>
         ensures { IfOk result (λ board. board ≡ record { portfolio = self.now.portfolio; quotas = length (book_of (items_of self.now.script.lines)) ∷ []; marks = [] }) }
     {
         let portfolio = Arc::try_clone(&self.portfolio)?;

@@ -21,7 +21,7 @@ use std::alloc::Global;
 use std::sync::ledger::Ledger;
 
 /// The caller appends an entry.
-pub(crate) fn append(board: &mut Board, entry: Obs) -> Result<(), NoMemory>
+pub fn append(board: &mut Board, entry: Obs) -> Result<(), NoMemory>
     requires present { IsPresent board.old CALLER }
     requires going { is_given_up board.old ≡ false }
     requires quota { HasQuota board.old CALLER }
@@ -38,7 +38,7 @@ pub(crate) fn append(board: &mut Board, entry: Obs) -> Result<(), NoMemory>
 
 /// The caller, all of whose asks are answered, asks; what it asks for is evaluated, and the answer is given. The rows that
 /// are computed for it are counted to `work`, here and below; where they are too many to be counted memory has run out.
-pub(crate) fn answer<L: Ledger>(
+pub fn answer<L: Ledger>(
     alloc: Global,
     portfolio: &Portfolio,
     board: &mut Board,

@@ -16,9 +16,9 @@ use std::sync::Arc;
 
 /// A portfolio, and a script of it whose asks don't weigh too much.
 #[derive(Drop)]
-pub(crate) struct Evaluation {
-    pub(crate) portfolio: Arc<Portfolio, Global>,
-    pub(crate) script: Script,
+pub struct Evaluation {
+    pub portfolio: Arc<Portfolio, Global>,
+    pub script: Script,
 }
 
 impl Model for Evaluation {
@@ -34,7 +34,7 @@ impl Model for Evaluation {
 
 impl Evaluation {
     /// The names that its lines are written with.
-    pub(crate) fn names(&self) -> &Names
+    pub fn names(&self) -> &Names
         ensures names { result.now ≡ self.now.script.names }
         ensures contracts { result.now.contracts ≡ self.now.portfolio.names.contracts }
     {
@@ -42,11 +42,7 @@ impl Evaluation {
     }
 
     /// The evaluation of a portfolio by its script, which is refused where its asks weigh too much.
-    pub(crate) fn new(
-        alloc: Global,
-        portfolio: Portfolio,
-        script: Script,
-    ) -> Result<Evaluation, Halt>
+    pub fn new(alloc: Global, portfolio: Portfolio, script: Script) -> Result<Evaluation, Halt>
         requires lines { AreOf portfolio script }
         ensures outcome { IfOk result (λ evaluation. eval_outcome portfolio script ≡ evaluation_outcome evaluation) }
         ensures too_much { IfErr result (λ halt. IfSome (refusal_of halt) (λ outcome. eval_outcome portfolio script ≡ outcome)) }

@@ -6,7 +6,7 @@ use act_num::NoMemory;
 
 /// Why a command stops before it writes its text, with the line that it writes instead.
 #[derive(Drop)]
-pub(crate) enum Halt {
+pub enum Halt {
     /// A file wasn't read.
     Unread(Vec<u8>),
     /// A file is longer than 64 MiB.

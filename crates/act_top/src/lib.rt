@@ -28,5 +28,14 @@ mod writing;
 
 pub use actus::actus_top;
 pub use desk::{Ran, desk_top};
+pub use driving::{answer, append};
+pub use evaluation::Evaluation;
+pub use halt::Halt;
 pub use interleaving::{one_script_is_its_journal, scripts_in_turn_are_an_interleaving};
+pub use line::line_of;
+pub use reading::{Script, read_portfolio};
+pub use scripts::{Scripts, read_scripts};
 pub use top::{Status, eval_top};
+pub use transcript::{write_transcript, write_work};
+pub use weight::{Weights, all_events, check_weight, weights_of};
+pub use writing::{Stop, write_line};

@@ -6,7 +6,7 @@ use act_num::NoMemory;
 use std::alloc::Global;
 
 /// A line of a word and others, each of these behind a space.
-pub(crate) fn line_of(alloc: Global, word: &[u8], others: &[&[u8]]) -> Result<Vec<u8>, NoMemory>
+pub fn line_of(alloc: Global, word: &[u8], others: &[&[u8]]) -> Result<Vec<u8>, NoMemory>
     ensures { IfOk result (λ line. line.items ≡ line_of word.now (map (λ w. w.now) others.now)) }
 {
     let mut line = Vec::new(alloc);

@@ -19,10 +19,10 @@ use std::marker::Model;
 
 /// The lines of a script, the names with its codes, and how many entries it has.
 #[derive(Drop)]
-pub(crate) struct Script {
-    pub(crate) lines: Vec<Line>,
-    pub(crate) names: Names,
-    pub(crate) entries: u64,
+pub struct Script {
+    pub lines: Vec<Line>,
+    pub names: Names,
+    pub entries: u64,
 }
 
 impl Model for Script {
@@ -34,11 +34,7 @@ impl Model for Script {
 }
 
 /// The portfolio of the file of that name.
-pub(crate) fn read_portfolio<F: Files>(
-    alloc: Global,
-    files: &mut F,
-    name: &str,
-) -> Result<Portfolio, Halt>
+pub fn read_portfolio<F: Files>(alloc: Global, files: &mut F, name: &str) -> Result<Portfolio, Halt>
     ensures told { IfSome (F.content files.old name.now) (λ bytes. Reads (portfolio_read name.now bytes) result) }
     ensures faults { F.faults files.new ≡ read_faults result (F.faults files.old) }
     ensures asked { AsksFile ⊤ ⊥ name.now result (F.asked files.old) (F.asked files.new) }

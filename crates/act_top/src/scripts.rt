@@ -17,10 +17,10 @@ use std::marker::Model;
 
 /// The lines of each script, the names with the codes of all of them, and how many entries they have together.
 #[derive(Drop)]
-pub(crate) struct Scripts {
-    pub(crate) lists: Vec<Vec<Line>>,
-    pub(crate) names: Names,
-    pub(crate) entries: u64,
+pub struct Scripts {
+    pub lists: Vec<Vec<Line>>,
+    pub names: Names,
+    pub entries: u64,
 }
 
 impl Model for Scripts {
@@ -33,7 +33,7 @@ impl Model for Scripts {
 }
 
 /// The scripts of the files of these names, each of which is read before the next one is fetched.
-pub(crate) fn read_scripts<F: Files>(
+pub fn read_scripts<F: Files>(
     alloc: Global,
     files: &mut F,
     portfolio: &Portfolio,

@@ -43,7 +43,7 @@ pub(crate) fn write_opening<K: Sink>(
 
 /// Writes a journal, and the answers to the asks of its callers, caller after caller. It answers whether each block ends
 /// in `end`. `contracts` is for how many contracts lines are kept from one answer to the next.
-pub(crate) fn write_transcript<K: Sink>(
+pub fn write_transcript<K: Sink>(
     alloc: Global,
     out: &mut K,
     names: &Names,
@@ -69,7 +69,7 @@ pub(crate) fn write_transcript<K: Sink>(
 
 /// Writes the line of how many rows were computed.
 #[tactic(auto, unfolding(crate::specs::Output::work_line))]
-pub(crate) fn write_work<K: Sink>(out: &mut K, line: &mut Vec<u8>, work: u64) -> Result<(), Stop>
+pub fn write_work<K: Sink>(out: &mut K, line: &mut Vec<u8>, work: u64) -> Result<(), Stop>
     ensures text { Writes result (work_line work) (K.written out.old) (K.written out.new) }
     ensures faults { K.faults out.new ≡ faults_after result (K.faults out.old) }
 {

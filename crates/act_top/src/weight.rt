@@ -19,17 +19,15 @@ use std::alloc::Global;
 
 /// The cone sums of contracts, and their sum.
 #[derive(Drop)]
-struct Weights {
-    each: Vec<u64>,
-    all: u64,
+pub struct Weights {
+    /// The cone sum of each named contract, by its number.
+    pub each: Vec<u64>,
+    /// Their sum.
+    pub all: u64,
 }
 
 /// Refuses scripts whose asks weigh too much.
-pub(crate) fn check_weight(
-    alloc: Global,
-    portfolio: &Portfolio,
-    scripts: &[Vec<Line>],
-) -> Result<(), Halt>
+pub fn check_weight(alloc: Global, portfolio: &Portfolio, scripts: &[Vec<Line>]) -> Result<(), Halt>
     requires contracts { Each (AsksBelow (length portfolio.now.names.contracts)) (line_lists scripts.now) }
     requires few { sum_by (count_by (λ (line : StepLine). is_append line.step)) (line_lists scripts.now) ≤ MOST_ENTRIES }
     requires callers { length scripts.now ≤ MOST_CALLERS }
@@ -50,7 +48,7 @@ pub(crate) fn check_weight(
 }
 
 /// The cone sums of the named contracts by their numbers.
-fn weights_of(alloc: Global, portfolio: &Portfolio) -> Result<Weights, NoMemory>
+pub fn weights_of(alloc: Global, portfolio: &Portfolio) -> Result<Weights, NoMemory>
     ensures each { IfOk result (λ weights. weights.each.items ≡ map (cone_sum portfolio.now.contracts) (numbers_of portfolio.now)) }
     ensures all { IfOk result (λ weights. weights.all ≡ sum (map (cone_sum portfolio.now.contracts) (numbers_of portfolio.now))) }
 {
@@ -66,7 +64,7 @@ fn weights_of(alloc: Global, portfolio: &Portfolio) -> Result<Weights, NoMemory>
 }
 
 /// How many event entries all scripts have.
-fn all_events(scripts: &[Vec<Line>]) -> u64
+pub fn all_events(scripts: &[Vec<Line>]) -> u64
     requires few { sum_by (count_by (λ (line : StepLine). is_append line.step)) (line_lists scripts.now) ≤ MOST_ENTRIES }
     ensures { result ≡ sum_by (count_by is_event) (line_lists scripts.now) }
 {

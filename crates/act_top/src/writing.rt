@@ -9,7 +9,7 @@ use act_num::NoMemory;
 
 /// Why a text isn't written whole.
 #[derive(Clone, Copy)]
-pub(crate) enum Stop {
+pub enum Stop {
     /// The sink failed.
     Sink,
     /// Memory ran out.
@@ -36,7 +36,7 @@ impl From<NoMemory> for Stop {
 }
 
 /// Writes a line whole, or stops at a fault.
-pub(crate) fn write_line<K: Sink>(out: &mut K, line: &[u8]) -> Result<(), Stop>
+pub fn write_line<K: Sink>(out: &mut K, line: &[u8]) -> Result<(), Stop>
     ensures text { Writes result line.now (K.written out.old) (K.written out.new) }
     ensures faults { K.faults out.new ≡ faults_after result (K.faults out.old) }
 {

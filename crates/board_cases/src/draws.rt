@@ -9,7 +9,7 @@ use act_num::Fixed;
 /// The number of 2020-01-02.
 const FIRST_DAY: u32 = 18_263;
 
-/// The number of 2021-01-01, on which the rate of the portfolios is reset.
+/// The number of 2021-01-01, on which a rate of the portfolios is reset.
 const RESET_DAY: u32 = 18_628;
 
 /// An entry that a book takes.
@@ -49,10 +49,10 @@ impl Draws {
         }
     }
 
-    /// A rate of the one code, on the day of the reset half of the times, or each fourth time a prepayment or, seldom, a
+    /// A rate of a code of two, on the day of a reset half of the times, or each fourth time a prepayment or, seldom, a
     /// default of a contract of four.
     pub fn entry(&mut self) -> Option<Entry> {
-        let (sort, whose) = (self.below(64), self.below(4));
+        let (sort, whose, code) = (self.below(64), self.below(4), self.below(2));
         let some_day = FIRST_DAY + self.below(720);
         let day = Day::from_number(i64::from(if sort < 40 { some_day } else { RESET_DAY }))?;
         let value = Fixed::from_units(i128::from(self.below(90_000_000)))?;
@@ -69,11 +69,7 @@ impl Draws {
                 day,
                 value,
             },
-            _ => Obs::Rate {
-                code: 0,
-                day,
-                value,
-            },
+            _ => Obs::Rate { code, day, value },
         };
         Some(Entry { says })
     }

@@ -2,7 +2,7 @@
 ghost use Rattle.std.specs.Prelude.{◌≡◌, true, IfSome};
 ghost use Rattle.act_model.specs.Observed.{is_credit_event, is_entry};
 
-use crate::many::{disagreements_told, held_told};
+use crate::many::{cuts_told, disagreements_told, held_told};
 use crate::steps::entry_told;
 use crate::told::Told;
 use crate::trouble::Trouble;
@@ -55,6 +55,7 @@ impl Shelf {
             "full_book" => full_book(told, words),
             "disagreements" => disagreements_told(told, words),
             "held" => held_told(told, words),
+            "cuts" => cuts_told(told, words),
             _ => self.ask(told, words, call),
         }
     }

@@ -2,6 +2,7 @@
 ghost use Rattle.std.specs.Prelude.{◌≡◌, ◌<◌};
 
 use crate::changes::{change, parts_around};
+use crate::failing::each_told;
 use crate::kept::kept_told;
 use crate::outside::add_file;
 use crate::shadows::shadow_told;
@@ -39,26 +40,37 @@ pub fn answer<F: Files>(told: &mut Told, words: &mut Words<'_>, files: &mut F, c
     }
 }
 
-/// Tells of a command by its words, each of which may name a file; behind `!` the number of a call that fails.
+/// Tells of a command by its words, each of which may name a file; behind `!` the number of a call that fails, or what fails in turn.
 fn named<F: Files>(told: &mut Told, words: &mut Words<'_>, files: &mut F) {
     let (line, fails) = words.given.split_once("! ").unwrap_or((words.given, ""));
+    let (fetch, put) = match fails.split_once(' ') {
+        Some(("fetch", calls)) => (calls, "-"),
+        Some(("put", calls)) => ("-", calls),
+        Some(("each", what)) => return each_told(told, words, files, line, what),
+        _ => ("-", "-"),
+    };
+    if fetch == put && !fails.is_empty() {
+        words.fail(Trouble::OtherWord);
+    }
+    let list = files_named(words, files, line);
+    let files = MemFiles::new(words.alloc, list, words.places_of(fetch));
+    let sink = MemSink::new(words.alloc, words.places_of(put));
+    run_told(told, words, files, sink, line, "run");
+}
+
+/// The files that words name, of those that there are.
+pub fn files_named<F: Files>(
+    words: &mut Words<'_>,
+    files: &mut F,
+    line: &str,
+) -> Vec<(String, Vec<u8>)> {
     let mut list = Vec::new(words.alloc);
     for name in line.split_whitespace() {
         if let Some(bytes) = words.found(files, name) {
             add_file(words, &mut list, name, bytes);
         }
     }
-    let (fetch, put) = match fails.split_once(' ') {
-        Some(("fetch", calls)) => (calls, "-"),
-        Some(("put", calls)) => ("-", calls),
-        _ => ("-", "-"),
-    };
-    if fetch == put && !fails.is_empty() {
-        words.fail(Trouble::OtherWord);
-    }
-    let files = MemFiles::new(words.alloc, list, words.places_of(fetch));
-    let sink = MemSink::new(words.alloc, words.places_of(put));
-    run_told(told, words, files, sink, line, "run");
+    list
 }
 
 /// Tells of a command over a portfolio, and over a script that stands below it.
@@ -112,11 +124,22 @@ fn refused<F: Files>(told: &mut Told, words: &mut Words<'_>, files: &mut F) {
 fn run_told(
     told: &mut Told,
     words: &mut Words<'_>,
-    mut files: MemFiles,
-    mut sink: MemSink,
+    files: MemFiles,
+    sink: MemSink,
     line: &str,
     call: &str,
 ) {
+    let (status, sink) = ended(words, files, sink, line);
+    status_told(told, call, status, sink.bytes());
+}
+
+/// Runs a command. It answers how it ended, and the sink.
+pub fn ended(
+    words: &mut Words<'_>,
+    mut files: MemFiles,
+    mut sink: MemSink,
+    line: &str,
+) -> (Status, MemSink) {
     let mut list = Vec::new(words.alloc);
     for word in line.split_whitespace() {
         let is_added = match String::from_str(words.alloc, word) {
@@ -128,7 +151,7 @@ fn run_told(
         }
     }
     let status = run::<Brand, _, _>(words.alloc, &list, &mut files, &mut sink, Blank::new(1));
-    status_told(told, call, status, sink.bytes());
+    (status, sink)
 }
 
 /// Runs a command with a counter of its own.

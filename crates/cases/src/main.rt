@@ -7,6 +7,7 @@ mod changes;
 mod commands;
 mod contracts;
 mod days;
+mod failing;
 mod json;
 mod kept;
 mod lists;

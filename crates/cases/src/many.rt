@@ -7,8 +7,9 @@ use crate::told::Told;
 use crate::trouble::Trouble;
 use crate::words::Words;
 use act_book::{Book, Snapshot};
+use act_cut::{IndexedBook, cut};
 use act_date::Day;
-use act_model::{Listed, Obs, ObsKind, Observed};
+use act_model::{Listed, Obs, ObsKind, Observed, Reads};
 use act_num::{Fixed, NoMemory};
 use std::alloc::Global;
 
@@ -118,6 +119,55 @@ fn is_agreed(alloc: Global, draws: &mut Draws, book: &Book, entries: &[Obs]) -> 
             && own.as_slice() == events.as_slice()
             && seen.entry(place) == list.entry(place),
     )
+}
+
+/// Tells of how many questions about cuts an indexed book and a plain list of the same entries answer differently: one behind
+/// each entry. How many entries there are is given, and from where they are drawn.
+pub fn cuts_told(told: &mut Told, words: &mut Words<'_>) {
+    let count = words.count();
+    let mut draws = Draws::of(words.count());
+    match cuts_that_differ(told.alloc, &mut draws, count) {
+        Some(differ) => told.value(differ),
+        None => told.fail(Trouble::NoMemory),
+    }
+}
+
+/// Of how many cuts an indexed book and a plain list of entries that are drawn answer differently. The book has no days of the
+/// last code and the last contract.
+fn cuts_that_differ(alloc: Global, draws: &mut Draws, count: u32) -> Option<u32> {
+    let mut book = IndexedBook::new(alloc, 2, 2);
+    let mut entries = Vec::new(alloc);
+    let mut differ = 0_u32;
+    for _ in 0..count {
+        let entry = draws.entry()?;
+        book.append(entry).ok()?;
+        entries.push(entry).ok()?;
+        if !is_cut_alike(alloc, draws, &mut book, &entries)? {
+            differ = differ.saturating_add(1);
+        }
+    }
+    Some(differ)
+}
+
+/// Whether an indexed book and a list answer the same cut between two versions, for what reads a code and a contract. All are
+/// drawn.
+fn is_cut_alike(
+    alloc: Global,
+    draws: &mut Draws,
+    book: &mut IndexedBook,
+    entries: &[Obs],
+) -> Option<bool> {
+    let most = u32::try_from(entries.len()).ok()?.min(book.len() as u32);
+    let (one, other) = (draws.below(most + 1), draws.below(most + 1));
+    let (from, to) = (one.min(other), one.max(other));
+    let reads = Reads {
+        codes: vec![in alloc; draws.below(4)].ok()?,
+        contracts: vec![in alloc; draws.below(4)].ok()?,
+    };
+    let seen = book.snapshot(u64::from(to)).ok()?;
+    let list = Listed::new(entries[..to as usize].to_vec(alloc).ok()?);
+    let found = book.cut(&reads, &seen, u64::from(from), u64::from(to));
+    Some(found == cut(&reads, &list, u64::from(from), u64::from(to)))
 }
 
 /// Tells how many of the snapshots that are held of a book while it is filled show their own last rate in the end, and

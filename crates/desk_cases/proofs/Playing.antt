@@ -107,6 +107,13 @@ module _ (k : ℕ) (before after : History) where
   keeps-given_up (Ok collected.GivenUp) up is = keeps-same is.collected.1
   keeps-given_up (Err fault) up is = absurd (cc)
 
+  -- the board was given up then
+  pub given_up-then : (answer : Result Collected NoMemory) → answer ≡ Ok collected.GivenUp → CollectsOrNot k answer before after → is_given_up after ≡ true
+  given_up-then (Ok (collected.Ready other)) up is = absurd (cc)
+  given_up-then (Ok collected.NotYet) up is = absurd (cc)
+  given_up-then (Ok collected.GivenUp) up is = ap is_given_up is.collected.1 ∙ is.collected.0
+  given_up-then (Err fault) up is = absurd (cc)
+
   pub keeps-no_memory : (answer : Result Collected NoMemory) (fault : NoMemory) → answer ≡ Err fault → CollectsOrNot k answer before after → Keeps k 0 0 before after
   keeps-no_memory (Ok answer) fault err is = absurd (cc)
   keeps-no_memory (Err other) fault err is = keeps-same is.unchanged

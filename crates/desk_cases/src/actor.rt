@@ -4,7 +4,7 @@ ghost use Rattle.act_model.specs.Journal.{is_known};
 ghost use Rattle.act_model.specs.Observed.{is_entry};
 ghost use Rattle.act_model.specs.declared.journal.Step.TheVariants.{Ask};
 
-use act_board::{Claim, Collected, Done, Task};
+use act_board::{AppendFault, AskFault, Claim, Collected, Done, Task};
 use act_desk::{Desk, DeskPass};
 use act_model::{Answer, Asked, Obs, Step};
 use act_num::Steps;
@@ -44,6 +44,8 @@ pub struct Heard {
     pub told: Vec<Told>,
     /// The answers that it collected, in order.
     pub answers: Vec<Answer>,
+    /// How many calls were answered that the board was given up.
+    pub given_up: u32,
     /// Whether memory ran out, or a call was answered what it can't be.
     pub trouble: bool,
 }
@@ -88,6 +90,7 @@ impl Actor {
                 number,
                 told: Vec::new(alloc),
                 answers: Vec::new(alloc),
+                given_up: 0,
                 trouble: false,
             },
         }
@@ -105,6 +108,7 @@ impl Actor {
         let step = appending(&entry);
         match desk.append(rt, pass, self.number, entry) {
             Ok(version) => self.note(step, version),
+            Err(AppendFault::GivenUp) => self.end(),
             Err(_) => {
                 let _ = self.fail();
             }
@@ -132,6 +136,7 @@ impl Actor {
                 self.open_asks += 1;
                 self.note(Step::Ask(asked), u64::from(number));
             }
+            Err(AskFault::GivenUp) => self.end(),
             Err(_) => {
                 let _ = self.fail();
             }
@@ -166,9 +171,23 @@ impl Actor {
             Ok(Claim::Task(task)) => self.make(rt, desk, pass, portfolio, task),
             Ok(Claim::Idle) => Work::None,
             Ok(Claim::Ended) => Work::Over,
-            Ok(Claim::GivenUp) => self.fail(),
+            Ok(Claim::GivenUp) => {
+                self.end();
+                Work::Over
+            }
             Err(_) => self.fail(),
         }
+    }
+
+    /// Notes that the board was given up.
+    fn end(&mut self)
+        ensures number { self.new.number ≡ self.old.number }
+        ensures here { self.new.here ≡ self.old.here }
+        ensures asks { self.new.open_asks ≡ self.old.open_asks }
+        ensures of { self.new.of ≡ self.old.of }
+    {
+        self.heard.given_up = self.heard.given_up.saturating_add(1);
+        self.heard.trouble = true;
     }
 
     /// Notes that something went wrong.
@@ -208,6 +227,23 @@ impl Actor {
         }
     }
 
+    /// Claims a task, and gives the board up with it. It answers whether there was one.
+    pub fn give_up_task<R: Wait>(&mut self, rt: &R, desk: &Desk, pass: &mut DeskPass) -> bool
+        requires plays { Plays desk.now pass.old self.old }
+        ensures { PlaysOn desk.now self.old pass.new self.new }
+    {
+        match desk.claim(rt, pass) {
+            Ok(Claim::Task(task)) => {
+                desk.give_up(rt, pass, Some(task));
+                true
+            }
+            Ok(Claim::Idle) => false,
+            Ok(Claim::Ended) => false,
+            Ok(Claim::GivenUp) => false,
+            Err(_) => false,
+        }
+    }
+
     /// Collects the answer to its oldest open ask, if it has one and the answer is ready. It answers whether it did.
     pub fn collect<R: Wait>(&mut self, rt: &R, desk: &Desk, pass: &mut DeskPass) -> bool
         requires plays { Plays desk.now pass.old self.old }
@@ -223,7 +259,10 @@ impl Actor {
                 true
             }
             Ok(Collected::NotYet) => false,
-            Ok(Collected::GivenUp) => self.fail() == Work::Made,
+            Ok(Collected::GivenUp) => {
+                self.end();
+                false
+            }
             Err(_) => self.fail() == Work::Made,
         }
     }
@@ -248,6 +287,29 @@ impl Actor {
         if self.here && self.open_asks == 0 {
             desk.leave(rt, pass, self.number);
             self.here = false;
+        }
+    }
+
+    /// Collects, where it is a caller that hasn't left and has an open ask, and leaves where it is told that the board was given up.
+    pub fn leave_given_up<R: Wait>(&mut self, rt: &R, desk: &Desk, pass: &mut DeskPass)
+        requires plays { Plays desk.now pass.old self.old }
+        ensures { PlaysOn desk.now self.old pass.new self.new }
+    {
+        if !self.here || self.open_asks == 0 {
+            return;
+        }
+        match desk.collect(rt, pass, self.number) {
+            Ok(Collected::Ready(answer)) => {
+                self.open_asks -= 1;
+                self.keep(answer);
+            }
+            Ok(Collected::NotYet) => {}
+            Ok(Collected::GivenUp) => {
+                desk.leave(rt, pass, self.number);
+                self.end();
+                self.here = false;
+            }
+            Err(_) => {}
         }
     }
 }

@@ -1,6 +1,7 @@
 //! Callers and workers, each in a thread of its own, make random calls of a desk. When all have left, one thread makes the steps of
-//! the journal anew, and each answer that a caller had is compared with the one that it has then. The three words are how many
-//! callers there are, how many workers, and how many calls each caller draws. It ends with 1 where an answer differs.
+//! the journal anew, and each answer that a caller had is compared with the one that it has then. Then a worker gives another desk up
+//! with a task in hand. The three words are how many callers there are, how many workers, and how many calls each caller draws. It
+//! ends with 1 where an answer differs, or one isn't that the desk was given up.
 #![tactic(auto)]
 
 ghost use Rattle.std.specs.Prelude.{◌≡◌, ◌<◌, ◌≤◌, IfSome};
@@ -9,10 +10,12 @@ mod actor;
 mod compare;
 mod draws;
 mod drive;
+mod given_up;
 mod portfolio;
 mod replay;
 
 use drive::{Size, drive};
+use given_up::is_given_up;
 use std::alloc::Global;
 use std::process::ExitCode;
 use std::{env, io};
@@ -31,7 +34,9 @@ fn main(rt: HostRuntime) -> io::Result<ExitCode> {
     print!(rt; "steps in the journal: {}\n", outcome.steps)?;
     print!(rt; "answers compared: {}\n", outcome.compared)?;
     print!(rt; "answers that differ: {}\n", outcome.differ)?;
-    Ok(ExitCode::from(u8::from(outcome.differ > 0)))
+    let given_up = is_given_up(&rt, rt.alloc());
+    print!(rt; "answered as given up: {}\n", given_up == Some(true))?;
+    Ok(ExitCode::from(u8::from(outcome.differ > 0 || given_up != Some(true))))
 }
 
 /// The three numbers behind the program's name, where they are such and within their limits.

@@ -1,16 +1,22 @@
 //! Three callers and 1, 4 or 64 workers run scripts at a desk, over each of six portfolios so many times as the first word says, from
 //! 1 to 1000. Each text that is written is read back and compared with the scripts and with what one thread answers that evaluates
 //! its journal. A line for each portfolio says how many texts and answers were compared and how many differ, and behind the word
-//! `rows` also how many rows were, which depends on the order in which threads ran. It ends with 1 where something differs.
+//! `rows` also how many rows were, which depends on the order in which threads ran. Then texts are audited: those of the table `audits.txt`,
+//! further texts of the desk, and some of these with a byte changed. It ends with 1 where something differs.
 #![tactic(auto)]
 
 mod alone;
+mod audit;
+mod audited;
+mod audits;
 mod cases;
+mod changed;
 mod commands;
 mod known;
 mod tally;
 mod trial;
 
+use audited::print_audits;
 use cases::CASES;
 use std::alloc::Global;
 use std::process::ExitCode;
@@ -30,7 +36,8 @@ fn main(rt: HostRuntime) -> io::Result<ExitCode> {
         all.add(&tally);
     }
     print_tally(&rt, "all", &all, has_rows)?;
-    Ok(ExitCode::from(u8::from(all.differ > 0)))
+    let differ = print_audits(&rt, rt.alloc(), has_rows)?;
+    Ok(ExitCode::from(u8::from(all.differ > 0 || differ > 0)))
 }
 
 /// The words behind the program's name: how many times, and whether rows are counted too.

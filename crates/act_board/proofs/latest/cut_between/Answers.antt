@@ -1,23 +1,12 @@
-use Rattle.std.proofs.Common.{List, ap, ◌∙◌, arith}
-use Rattle.act_model.specs.declared.observed.Obs.{Obs}
-use Rattle.act_profile.specs.Reads.{cut_by}
+use Rattle.std.proofs.Common.{◌∙◌, arith}
 use Rattle.act_board.proofs.LatestRuns.{cut-down, cut-up}
 use Rattle.act_board.proofs.latest.cut_between.Goals as goal
 
 pub returns-then-other-version-clause-cut : goal.returns-then-other-version-clause-cut
 returns-then-other-version-clause-cut c =
-    let codes = c.args.reads.now.codes in
-    let contracts = c.args.reads.now.contracts in
-    c.in_range.ensures.same
-    ∙ (c.cut.ensures.cut
-    ∙ (ap (λ (xs : List Obs). cut_by codes contracts xs c.args.other c.args.version) c.requires.seen
-    ∙ cut-up codes contracts c.args.book.now c.args.other c.args.version c.if-other-version.true))
+    c.in_range.ensures.same ∙ (c.cut.ensures.cut ∙ cut-up c.args.reads.now.codes c.args.reads.now.contracts c.args.book.now c.args.other c.args.version c.if-other-version.true)
 
 pub returns-in_ok-newer-clause-cut : goal.returns-in_ok-newer-clause-cut
 returns-in_ok-newer-clause-cut c =
-    let codes = c.args.reads.now.codes in
-    let contracts = c.args.reads.now.contracts in
     c.in_range-else-other-version.ensures.same
-    ∙ (c.cut-else-other-version.ensures.cut
-    ∙ (ap (λ (xs : List Obs). cut_by codes contracts xs c.args.version c.args.other) c.in_ok-newer.ensures
-    ∙ cut-down codes contracts c.args.book.now c.args.other c.args.version (omega (arith, c.if-other-version.false))))
+    ∙ (c.cut-else-other-version.ensures.cut ∙ cut-down c.args.reads.now.codes c.args.reads.now.contracts c.args.book.now c.args.other c.args.version (omega (arith, c.if-other-version.false)))

@@ -51,7 +51,7 @@ bound_portfolio-requires-clause-numbered c = are_numbered (map (λ v. view v.now
 pub bound_portfolio-requires-clause-unused : goal.bound_portfolio-requires-clause-unused
 bound_portfolio-requires-clause-unused c =
     let objects = map (λ v. view v.now) c.args.contracts.now in
-    let named = c.in_ok-named.named.items in
+    let named = c.in_ok-named.field-0.named.items in
     let many = as_many_read objects zero no_names _ _ c.in_ok-named.ensures.read in
     let unused = rw c.deref-2.ensures.value at c.in_ok-unused.ensures in
     sym (length-map c.in_ok-unused.unused.items _) ∙ (ap length unused ∙ unused_are_many named objects many)
@@ -59,7 +59,7 @@ bound_portfolio-requires-clause-unused c =
 pub returns-clause-accepted : goal.returns-clause-accepted
 returns-clause-accepted c =
     let objects = map (λ v. view v.now) c.args.contracts.now in
-    let named = c.in_ok-named.named.items in
+    let named = c.in_ok-named.field-0.named.items in
     let checks = rw c.deref.ensures.value at c.in_ok-check.ensures.checked in
     let graph = rw c.deref-3.ensures.value at c.in_ok-graph.ensures.graph in
     IfOk-weaker c.bound_portfolio.result _ _ (λ portfolio made.
@@ -69,7 +69,7 @@ returns-clause-accepted c =
 pub returns-clause-refused : goal.returns-clause-refused
 returns-clause-refused c =
     let objects = map (λ v. view v.now) c.args.contracts.now in
-    let named = c.in_ok-named.named.items in
+    let named = c.in_ok-named.field-0.named.items in
     let checks = rw c.deref.ensures.value at c.in_ok-check.ensures.checked in
     let graph = rw c.deref-3.ensures.value at c.in_ok-graph.ensures.graph in
     IfErr-weaker c.bound_portfolio.result _ _ (λ fault refused. IfSome_then (refusal_of fault) refused (λ refusal.

@@ -11,4 +11,4 @@ returns g c =
     let rows = events_of_children terms.common terms.kind (map arc_value c.args.children.now) in
     c.with_exercise.ensures
     ∙ ap (with_exercise terms.kind) (c.retain_counting.ensures ∙ ap (counting terms.common.status_date terms.kind) (c.in_ok-put_in_order.ensures.in_order
-    ∙ ap in_order (c.in_ok-add_rows_of_children.ensures ∙ ap (λ own. own ++ rows) c.in_ok-events.ensures)))
+    ∙ ap in_order (c.in_ok-events.ensures ∙ ap (λ own. own ++ rows) c.in_ok-own.ensures)))

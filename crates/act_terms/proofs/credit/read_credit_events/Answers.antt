@@ -1,9 +1,8 @@
-use Rattle.std.proofs.Common.{◌≡◌, ℕ, List, Vec, Global, IfOk, IfErr, map, codes, Some, Ok, Err, ap, subst, sym, ◌∙◌}
+use Rattle.std.proofs.Common.{◌≡◌, map, codes, Some, ap, sym, ◌∙◌}
 use Rattle.serde_json.proofs.Views.{view-Array}
-use Rattle.serde_json.specs.Data.{Data, array}
+use Rattle.serde_json.specs.Data.{array}
 use Rattle.serde_json.specs.Find.{get}
 use Rattle.serde_json.specs.View.{items_view, view}
-use Rattle.act_model.specs.declared.observed.ObsKind.{ObsKind}
 use Rattle.act_terms.specs.Credit.{credit_events_from, credit_events_in, credit_events_of}
 use Rattle.act_terms.proofs.Elements.{listed_again}
 use Rattle.act_terms.proofs.credit.read_credit_events.Goals as goal

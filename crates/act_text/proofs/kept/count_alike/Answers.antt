@@ -1,4 +1,4 @@
-use Rattle.std.proofs.Common.{◌≡◌, take, subst, sym, ◌∙◌, arith}
+use Rattle.std.proofs.Common.{take, subst, sym, ◌∙◌, arith}
 use Rattle.act_text.specs.Kept.{ArePrintedAlike}
 use Rattle.act_text.proofs.KeptLines.{alike_more, not_other, same_line}
 use Rattle.act_text.proofs.kept.count_alike.Goals as goal

@@ -138,7 +138,7 @@ invariant_of-self-2 c =
     ∙ ap (λ (d : ℕ). b.marks.items ++ mark.Claim d v ∷ []) (sym same))) in
     let marked-own = c.put_mark.ensures.added ∙ (ap (λ (ms : List Mark). ms ++ c.claim.result ∷ []) c.make_room.ensures.marks ∙ ap (λ (m : Mark). b.marks.items ++ m ∷ []) c.claim.ensures) in
     let room : length b.marks.items + (b.owing + 2) ≤ vec_capacity c.put_mark.new.marks = omega (arith, c.in_ok-make_room.ensures.room, ap length c.make_room.ensures.marks, c.put_mark.ensures.kept) in (
-      rw (written_back b.pairs.len c.put_progress.new.pairs b.pairs.items (ap length put.is ∙ length-set b.pairs.items put.place (record { version = v; rank = r; progress = Claimed })) (sym c.deref_mut.ensures.len ∙ ap length c.deref_mut.ensures.value))
+      rw (c.cached_for.ensures.same, written_back b.pairs.len c.put_progress.new.pairs b.pairs.items (ap length put.is ∙ length-set b.pairs.items put.place (record { version = v; rank = r; progress = Claimed })) (sym c.deref_mut.ensures.len ∙ ap length c.deref_mut.ensures.value))
           (board-claimed raw _ b.items.items b.book b.callers.items b.pairs.items b.front b.owing b.given_up c.self.invariant.0 v r c.put_progress.new.pairs c.put_mark.new.marks.items (vec_capacity c.put_mark.new.marks) put
           (going, subst (λ (d : ℕ). IsNext raw d v) (sym same) next) (slice_get_within p.order r c.args.contract ranked) marked room),
       latest-quiet raw b.latest.items c.self.invariant.1 (mark.Claim c.args.contract v) c.put_mark.new.marks.items marked-own (λ d. refl) refl,

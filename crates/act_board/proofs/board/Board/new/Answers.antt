@@ -24,9 +24,9 @@ invariant_of-result c =
     let room : length quotas + 1 ≤ vec_capacity c.make_room.new.marks = omega (arith, c.in_ok-make_room.ensures.room, ap length marks) in
     let terms : length c.terms.result.now ≡ length portfolio.contracts.terms = ap length c.terms.ensures.terms ∙ ap (λ (p : Accepted). length p.contracts.terms) c.deref-2.ensures in
     let none = subst (λ (n : ℕ). NoneYet n c.in_ok-latest.latest.items) terms c.in_ok-latest.ensures in (
-      rw (marks, c.in_ok-quotas.ensures.items, c.new.ensures.items, c.new-2.ensures, c.new-3.ensures.items)
+      rw (marks, c.in_ok-quotas.ensures.items, c.new.ensures.items, c.new-book.ensures, c.new-2.ensures.items)
           (board-fresh portfolio quotas (vec_capacity c.make_room.new.marks) c.in_ok-callers.callers.items ordered count numbered c.in_ok-callers.ensures c.requires.few room c.requires.fits),
       rw (marks, c.in_ok-quotas.ensures.items) (latest-fresh portfolio quotas c.in_ok-latest.latest.items none),
-      rw (marks, c.in_ok-quotas.ensures.items, c.new-3.ensures.items, c.nothing_ready.ensures.lacking, c.nothing_ready.ensures.places)
+      rw (marks, c.in_ok-quotas.ensures.items, c.new-2.ensures.items, c.nothing_ready.ensures.lacking, c.nothing_ready.ensures.places)
           (ready-fresh portfolio quotas (vec_capacity c.nothing_ready.result.places) c.in_ok-parents.parents.items (subst (λ (p : Accepted). AreParents p.contracts.children (child_lists c.in_ok-parents.parents.items)) c.deref-3.ensures c.in_ok-parents.ensures)),
     )

@@ -14,10 +14,10 @@ returns-in-Ok-NotYet g c =
 
 pub returns-in-Ok-GivenUp : goal.returns-in-Ok-GivenUp
 returns-in-Ok-GivenUp g c =
-    plays-on _ _ _ _ c.collect.ensures c.args.self.now c.fail.new.self c.requires.plays c.fail.ensures.number c.fail.ensures.of 0 0 c.fail.ensures.here (omega (arith, c.fail.ensures.asks))
+    plays-on _ _ _ _ c.collect.ensures c.args.self.now c.end.new.self c.requires.plays c.end.ensures.number c.end.ensures.of 0 0 c.end.ensures.here (omega (arith, c.end.ensures.asks))
     (λ f t call. keeps-given_up c.args.self.now.number f t _ (c.in-Ok-GivenUp.is ∙ ap Ok c.in-Ok-GivenUp.field-0-is) call)
 
 pub returns-in-Err : goal.returns-in-Err
 returns-in-Err g c =
-    plays-on _ _ _ _ c.collect.ensures c.args.self.now c.fail-in-Err.new.self c.requires.plays c.fail-in-Err.ensures.number c.fail-in-Err.ensures.of 0 0 c.fail-in-Err.ensures.here (omega (arith, c.fail-in-Err.ensures.asks))
+    plays-on _ _ _ _ c.collect.ensures c.args.self.now c.fail.new.self c.requires.plays c.fail.ensures.number c.fail.ensures.of 0 0 c.fail.ensures.here (omega (arith, c.fail.ensures.asks))
     (λ f t call. keeps-no_memory c.args.self.now.number f t _ _ c.in-Err.is call)

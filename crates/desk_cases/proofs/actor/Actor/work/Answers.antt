@@ -27,8 +27,8 @@ returns-in-Ok-Ended g c =
 
 pub returns-in-Ok-GivenUp : goal.returns-in-Ok-GivenUp
 returns-in-Ok-GivenUp g c =
-    plays-on _ _ _ _ c.claim.ensures c.args.self.now c.fail.new.self c.requires.plays c.fail.ensures.number c.fail.ensures.of 0 0 c.fail.ensures.here (omega (arith, c.fail.ensures.asks)) (λ f t call. keeps-claim c.args.self.now.number f t _ call)
+    plays-on _ _ _ _ c.claim.ensures c.args.self.now c.end.new.self c.requires.plays c.end.ensures.number c.end.ensures.of 0 0 c.end.ensures.here (omega (arith, c.end.ensures.asks)) (λ f t call. keeps-claim c.args.self.now.number f t _ call)
 
 pub returns-in-Err : goal.returns-in-Err
 returns-in-Err g c =
-    plays-on _ _ _ _ c.claim.ensures c.args.self.now c.fail-in-Err.new.self c.requires.plays c.fail-in-Err.ensures.number c.fail-in-Err.ensures.of 0 0 c.fail-in-Err.ensures.here (omega (arith, c.fail-in-Err.ensures.asks)) (λ f t call. keeps-claim c.args.self.now.number f t _ call)
+    plays-on _ _ _ _ c.claim.ensures c.args.self.now c.fail.new.self c.requires.plays c.fail.ensures.number c.fail.ensures.of 0 0 c.fail.ensures.here (omega (arith, c.fail.ensures.asks)) (λ f t call. keeps-claim c.args.self.now.number f t _ call)

@@ -1,4 +1,4 @@
-use Rattle.cases.proofs.commands.run_told.Given as goal
+use Rattle.actus_audit.proofs.main.Given as goal
 
 abbrev pub ghosts-run : goal.ghosts-run
 ghosts-run a = record { name = a.blank.name; parts = a.blank.parts }

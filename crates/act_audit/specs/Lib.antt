@@ -1,0 +1,11 @@
+pub mod Asked
+pub mod Audited
+pub mod Ending
+pub mod Journal
+pub mod Judging
+pub mod Order
+pub mod Text
+pub mod Told
+pub mod Verdict
+pub mod Words
+pub mod Written

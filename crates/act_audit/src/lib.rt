@@ -1,0 +1,21 @@
+//! Whether a text that someone else printed is right: the text of the portfolio and of some journal, or of an interleaving of
+//! scripts.
+#![tactic(auto)]
+
+mod answers;
+mod codes;
+mod job;
+mod journal;
+mod judging;
+mod order;
+mod right;
+mod sheet;
+mod status;
+mod text;
+mod top;
+mod verdict;
+mod words;
+
+pub use status::Status;
+pub use top::audit_top;
+pub use verdict::{Verdict, no_two_verdicts_are_both_so, right_texts_are_of_the_scripts};
