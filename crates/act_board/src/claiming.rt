@@ -85,7 +85,8 @@ pub(crate) fn children_results(
     Ok(runs)
 }
 
-/// Whether the contracts of these numbers, from one on, as far as to another, have results at a version.
+/// Whether the contracts of these numbers, from one on, as far as to another, have results at a version. The last is looked at
+/// first, since it mostly has one last.
 pub(crate) fn are_ready(
     portfolio: &Portfolio,
     pairs: &[Pair],
@@ -100,8 +101,10 @@ pub(crate) fn are_ready(
     ensures no { result ≡ false → (history : History) → Keeps portfolio.now pairs.now history
         → (c : ℕ) × (first ≤ c) × (c < end) × (has_result history c version ≡ false) }
 {
-    for contract in first..end {
-        if !has_result(portfolio, pairs, contract, version) {
+    let mut left = end;
+    while left > first {
+        left -= 1;
+        if !has_result(portfolio, pairs, left, version) {
             return false;
         }
     }

@@ -26,7 +26,7 @@ fn maturity_plan(alloc: Global, common: &Common, maturity: Option<Day>) -> Resul
     ensures { result ≢ Err PlanFault.NoMemory → result ≡ maturity_plan common.now maturity }
 {
     let Some(maturity) = maturity else {
-        return Ok(plain_plan(alloc, Vec::new(alloc)));
+        return plain_plan(alloc, Vec::new(alloc));
     };
     match shift(maturity, common.business_day_convention, common.calendar) {
         Some(shifted) => plan_of_one(
@@ -43,16 +43,12 @@ fn plan_of_one(alloc: Global, event: Event) -> Result<Plan, PlanFault>
 {
     let mut events = Vec::new(alloc);
     events.push(event)?;
-    Ok(plain_plan(alloc, events))
+    plain_plan(alloc, events)
 }
 
-/// The plan with those events, and without redemptions.
-fn plain_plan(alloc: Global, events: Vec<Event>) -> Plan
-    ensures { result ≡ plain_plan events.items }
+/// The plan with those events, and without redemptions. The one fault is `NoMemory`.
+fn plain_plan(alloc: Global, events: Vec<Event>) -> Result<Plan, PlanFault>
+    ensures { result ≢ Err PlanFault.NoMemory → result ≡ Ok (plain_plan events.items) }
 {
-    Plan {
-        events,
-        redemptions: Vec::new(alloc),
-        periods: Vec::new(alloc),
-    }
+    Ok(Plan::new(events, Vec::new(alloc), Vec::new(alloc))?)
 }

@@ -65,11 +65,7 @@ impl<'a> Outright<'a> {
         ensures { result ≢ Err PlanFault.NoMemory → result ≡ outright_plan self.now.common self.now.fxout }
     {
         let events = self.events_in_order(alloc, types)?;
-        Ok(Plan {
-            events,
-            redemptions: Vec::new(alloc),
-            periods: Vec::new(alloc),
-        })
+        Ok(Plan::new(events, Vec::new(alloc), Vec::new(alloc))?)
     }
 
     /// The scheduled events in order, or the fault.

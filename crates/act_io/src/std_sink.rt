@@ -79,6 +79,7 @@ impl<R: Print> Sink for StdSink<'_, R> {
     ghost faults = { λ s. s.faults };
 
     /// A piece for which there is no memory, or that has 64 KiB or more, is written at once, behind what is gathered.
+    #[inline]
     fn put(&mut self, piece: &[u8]) -> Result<usize, PutFault>
         ensures took { Puts piece.now None None result }
         ensures empty { length piece.now ≡ 0 → result ≡ Ok 0 }

@@ -1,3 +1,4 @@
+pub mod Ends
 pub mod InOrder
 pub mod Insertions
 pub mod PlannedEvents

@@ -38,7 +38,7 @@ pub fn is_unpaid(terms: &Terms, plan: &Plan, event: &Event) -> bool
     ensures { result ≡ is_unpaid terms.now plan.now event.now }
 {
     match purchase_of(terms) {
-        Some(date) => is_before_purchase(terms, &plan.events, &purchase_on(date), event),
+        Some(date) => is_before_purchase(terms, plan, &purchase_on(date), event),
         None => false,
     }
 }
@@ -68,16 +68,23 @@ fn purchase_on(day: Day) -> Event
 
 /// Whether an event comes before a purchase that counts: no scheduled event that ends the contract comes before the
 /// purchase.
-fn is_before_purchase(terms: &Terms, scheduled: &[Event], purchase: &Event, event: &Event) -> bool
-    ensures { result ≡ is_before_purchase terms.now.common.status_date terms.now.kind scheduled.now purchase.now event.now }
+fn is_before_purchase(terms: &Terms, plan: &Plan, purchase: &Event, event: &Event) -> bool
+    ensures { result ≡ is_before_purchase terms.now.common.status_date terms.now.kind plan.now.events purchase.now event.now }
 {
     precedes(event, purchase)
         && counts(terms.common.status_date, &terms.kind, purchase.day)
-        && !is_behind_end(&terms.kind, scheduled, purchase)
+        && !is_behind_end(&terms.kind, plan, purchase)
+}
+
+/// Whether a scheduled event ends the contract and comes before a purchase. Only those are asked that can end one.
+fn is_behind_end(kind: &Kind, plan: &Plan, purchase: &Event) -> bool
+    ensures { result ≡ list_any (λ e. ends kind.now e && precedes e purchase.now) plan.now.events }
+{
+    one_ends_before(kind, plan.ends(), purchase)
 }
 
 /// Whether one of some events ends the contract and comes before a purchase.
-fn is_behind_end(kind: &Kind, events: &[Event], purchase: &Event) -> bool
+fn one_ends_before(kind: &Kind, events: &[Event], purchase: &Event) -> bool
     ensures { result ≡ list_any (λ e. ends kind.now e && precedes e purchase.now) events.now }
 {
     events.iter().any(|earlier| ends(kind, earlier) && precedes(earlier, purchase))

@@ -20,11 +20,7 @@ pub fn trade_plan(alloc: Global, common: &Common) -> Result<Plan, PlanFault>
     ensures { result ≢ Err PlanFault.NoMemory → result ≡ trade_plan common.now }
 {
     match trades_in_order(alloc, common) {
-        Ok(events) => Ok(Plan {
-            events,
-            redemptions: Vec::new(alloc),
-            periods: Vec::new(alloc),
-        }),
+        Ok(events) => Ok(Plan::new(events, Vec::new(alloc), Vec::new(alloc))?),
         Err(_) => Err(PlanFault::NoMemory),
     }
 }

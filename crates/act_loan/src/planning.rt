@@ -36,11 +36,7 @@ impl LoanTerms<'_> {
         let events = self.events_in_order(alloc, types)?;
         let redemptions = self.annuity_days(alloc, &events)?;
         let periods = self.parts_between(alloc, &redemptions)?;
-        Ok(Plan {
-            events,
-            redemptions,
-            periods,
-        })
+        Ok(Plan::new(events, redemptions, periods)?)
     }
 
     /// The scheduled events in order, or the first fault.

@@ -1,5 +1,5 @@
--- Rows whose rests stand apart.
-use Rattle.std.proofs.Common.{◌≡◌, ℕ, zero, suc, ◌+◌, ◌<◌, Bool, true, false, ◌&&◌, List, [], ◌∷◌, ◌++◌, length, map, get_or, slice_get, Option, None, Some, Result, Ok, Err, OnErr, ◌⊎◌, inl, inr, refl, sym, ap, ap₂, subst, ◌∙◌, arith, int_eq}
+-- Rows whose rests and bases stand apart.
+use Rattle.std.proofs.Common.{◌≡◌, ℕ, zero, suc, ◌+◌, ◌<◌, Bool, true, false, ◌&&◌, List, [], ◌∷◌, ◌++◌, length, map, get_or, slice_get, Option, None, Some, Result, Ok, Err, IfOk, OnErr, ◌⊎◌, inl, inr, refl, sym, ap, ap₂, subst, ◌∙◌, arith, int_eq}
 use Rattle.std.proofs.lemmas.Bool.Decides.{Decides-int_eq}
 use Rattle.std.proofs.lemmas.List.{get_or_append_left, length-append, map_push}
 use Rattle.std.proofs.lemmas.List.Elements.{All-append, All-head, All-tail}
@@ -7,7 +7,8 @@ use Rattle.std.proofs.lemmas.Option.{get_or_from_slice_get, slice_get_within}
 use Rattle.std.specs.List.{All}
 use Rattle.std.specs.Option.{option_eq}
 use Rattle.std.specs.Prelude.{ℤ}
-use Rattle.act_model.specs.Chunk.{full_row, has_rest, no_rest, rest_of, row_of}
+use Rattle.act_model.specs.Chunk.{HaveParts, bases_of, full_row, has_bases, has_rest, no_bases, no_rest, rest_of, row_of}
+use Rattle.act_model.specs.declared.chunk.Bases.{Bases}
 use Rattle.act_model.specs.declared.chunk.Rest.{Rest}
 use Rattle.act_model.specs.declared.chunk.Slim.{Slim}
 use Rattle.act_model.specs.declared.run.Row.{Row}
@@ -48,17 +49,30 @@ same_rest a b e =
     let same : one ≡ other = simp (md, xd, ipnr2, ipac2, nsc, isc, prnxt, xa) refl in
     same
 
--- with more rests the rows are the same
-pub rows_with_more : (rests more : List Rest) (slims : List Slim) → All (has_rest (length rests)) slims → map (full_row (rests ++ more)) slims ≡ map (full_row rests) slims
-rows_with_more rests more [] have = refl
-rows_with_more rests more (slim ∷ slims) have =
-    ap₂ (λ rest rows. row_of rest slim ∷ rows) (get_or_append_left rests more no_rest slim.rest (All-head (has_rest (length rests)) slim slims have))
-    (rows_with_more rests more slims (All-tail (has_rest (length rests)) slim slims have))
+pub same_bases : (a b : Bases) → (int_eq a.feac b.feac && int_eq a.ipcb b.ipcb) ≡ true → a ≡ b
+same_bases a b e =
+    let after_feac = both _ _ e in
+    let feac : a.feac ≡ b.feac = (Decides-int_eq _ _).0 after_feac.0 in
+    let ipcb : a.ipcb ≡ b.ipcb = (Decides-int_eq _ _).0 after_feac.1 in
+    let one : Bases = record { feac = a.feac; ipcb = a.ipcb } in
+    let other : Bases = record { feac = b.feac; ipcb = b.ipcb } in
+    let same : one ≡ other = simp (feac, ipcb) refl in
+    same
 
-pub have_more : (count count' : ℕ) (slims : List Slim) → count < count' + 1 → All (has_rest count) slims → All (has_rest count') slims
-have_more count count' slims within have = λ k d here. omega (arith, have k d here, within)
+-- with more rests the rows are the same, and with more bases
+rows_with_rests : (rests more : List Rest) (bases : List Bases) (slims : List Slim) → All (has_rest (length rests)) slims → map (full_row (rests ++ more) bases) slims ≡ map (full_row rests bases) slims
+rows_with_rests rests more bases [] have = refl
+rows_with_rests rests more bases (slim ∷ slims) have =
+    ap₂ (λ rest rows. row_of rest (get_or bases slim.bases no_bases) slim ∷ rows) (get_or_append_left rests more no_rest slim.rest (All-head (has_rest (length rests)) slim slims have))
+    (rows_with_rests rests more bases slims (All-tail (has_rest (length rests)) slim slims have))
 
-of_one : {A : Type 0} (P : A → Type 0) (x : A) → P x → All P (x ∷ [])
+rows_with_bases : (rests : List Rest) (bases more : List Bases) (slims : List Slim) → All (has_bases (length bases)) slims → map (full_row rests (bases ++ more)) slims ≡ map (full_row rests bases) slims
+rows_with_bases rests bases more [] have = refl
+rows_with_bases rests bases more (slim ∷ slims) have =
+    ap₂ (λ own rows. row_of (get_or rests slim.rest no_rest) own slim ∷ rows) (get_or_append_left bases more no_bases slim.bases (All-head (has_bases (length bases)) slim slims have))
+    (rows_with_bases rests bases more slims (All-tail (has_bases (length bases)) slim slims have))
+
+pub of_one : {A : Type 0} (P : A → Type 0) (x : A) → P x → All P (x ∷ [])
 of_one P x p zero d here = p
 of_one P x p (suc k) d here = absurd (omega (arith, here))
 
@@ -67,31 +81,60 @@ pub on_err : {T E : Type 0} (r : Result T E) (P : Type 0) → P → OnErr r P
 on_err (Ok x) P p = tt
 on_err (Err e) P p = p
 
--- the rests before, and at most one more
-module _ (rests rests' : List Rest) (rest : Rest) (others : (rests' ≡ rests) ⊎ (rests' ≡ rests ++ rest ∷ [])) where
-  pub not_fewer : length rests < length rests' + 1
-  not_fewer = elim others [
-    | inl same ↦ omega (arith, ap length same)
-    | inr more ↦ omega (arith, ap length more, length-append rests (rest ∷ []))
-  ]
+-- what stands at a place stands at its number, where it has one
+pub at_number : {A E : Type 0} (xs : List A) (x : A) (place : ℕ) (number : Result ℕ E) → slice_get xs place ≡ Some x → IfOk number (λ n. n ≡ place) → IfOk number (λ n. slice_get xs n ≡ Some x)
+at_number xs x place (Ok n) there is = ap (slice_get xs) is ∙ there
+at_number xs x place (Err e) there is = tt
 
-  pub same_rows : (slims : List Slim) → All (has_rest (length rests)) slims → map (full_row rests') slims ≡ map (full_row rests) slims
-  same_rows slims have = elim others [
-    | inl same ↦ ap (λ rests. map (full_row rests) slims) same
-    | inr more ↦ ap (λ rests. map (full_row rests) slims) more ∙ rows_with_more rests (rest ∷ []) slims have
-  ]
+-- a list, and at most one more
+abbrev AtMostOneMore : {A : Type 0} → List A → List A → A → Type 0
+AtMostOneMore xs xs' x = (xs' ≡ xs) ⊎ (xs' ≡ xs ++ x ∷ [])
 
-  -- one row more, with its rest
-  module _ (slims slims' : List Slim) (slim : Slim) (row : Row) (e : slims' ≡ slims ++ slim ∷ []) (there : slice_get rests' slim.rest ≡ Some (rest_of row)) (is : row_of (rest_of row) slim ≡ row)
-      (have : All (has_rest (length rests)) slims) where
-    pub have_all : All (has_rest (length rests')) slims'
-    have_all = subst (All (has_rest (length rests'))) (sym e)
-        (All-append (has_rest (length rests')) slims (slim ∷ []) (have_more (length rests) (length rests') slims not_fewer have)
-        (of_one (has_rest (length rests')) slim (slice_get_within rests' slim.rest (rest_of row) there)))
+not_fewer : {A : Type 0} (xs xs' : List A) (x : A) → AtMostOneMore xs xs' x → length xs < length xs' + 1
+not_fewer xs xs' x others = elim others [
+  | inl same ↦ omega (arith, ap length same)
+  | inr more ↦ omega (arith, ap length more, length-append xs (x ∷ []))
+]
 
-    pub one_more : map (full_row rests') slims' ≡ map (full_row rests) slims ++ row ∷ []
+-- the rests and the bases before, and at most one more of each
+module _ (rests rests' : List Rest) (rest : Rest) (others : (rests' ≡ rests) ⊎ (rests' ≡ rests ++ rest ∷ []))
+    (bases bases' : List Bases) (own : Bases) (other-bases : (bases' ≡ bases) ⊎ (bases' ≡ bases ++ own ∷ [])) where
+  pub same_rows : (slims : List Slim) → HaveParts rests bases slims → map (full_row rests' bases') slims ≡ map (full_row rests bases) slims
+  same_rows slims have =
+      elim others [
+        | inl same ↦ ap (λ rests. map (full_row rests bases') slims) same
+        | inr more ↦ ap (λ rests. map (full_row rests bases') slims) more ∙ rows_with_rests rests (rest ∷ []) bases' slims have.each_rest
+      ]
+      ∙ elim other-bases [
+        | inl same ↦ ap (λ bases. map (full_row rests bases) slims) same
+        | inr more ↦ ap (λ bases. map (full_row rests bases) slims) more ∙ rows_with_bases rests bases (own ∷ []) slims have.each_bases
+      ]
+
+  pub have_same : (slims : List Slim) → HaveParts rests bases slims → HaveParts rests' bases' slims
+  have_same slims have =
+      let rests-within = not_fewer rests rests' rest others in
+      let bases-within = not_fewer bases bases' own other-bases in
+      record {
+        each_rest = λ k d here. omega (arith, have.each_rest k d here, rests-within);
+        each_bases = λ k d here. omega (arith, have.each_bases k d here, bases-within);
+      }
+
+  -- one row more, with its rest and its bases
+  module _ (slims slims' : List Slim) (slim : Slim) (row : Row) (e : slims' ≡ slims ++ slim ∷ []) (there : slice_get rests' slim.rest ≡ Some (rest_of row)) (bases-there : slice_get bases' slim.bases ≡ Some (bases_of row))
+      (is : row_of (rest_of row) (bases_of row) slim ≡ row) (have : HaveParts rests bases slims) where
+    pub have_all : HaveParts rests' bases' slims'
+    have_all =
+        let before = have_same slims have in
+        record {
+          each_rest = subst (All (has_rest (length rests'))) (sym e)
+              (All-append (has_rest (length rests')) slims (slim ∷ []) before.each_rest (of_one (has_rest (length rests')) slim (slice_get_within rests' slim.rest (rest_of row) there)));
+          each_bases = subst (All (has_bases (length bases'))) (sym e)
+              (All-append (has_bases (length bases')) slims (slim ∷ []) before.each_bases (of_one (has_bases (length bases')) slim (slice_get_within bases' slim.bases (bases_of row) bases-there)));
+        }
+
+    pub one_more : map (full_row rests' bases') slims' ≡ map (full_row rests bases) slims ++ row ∷ []
     one_more =
-        ap (map (full_row rests')) e
-        ∙ map_push (full_row rests') slims slim
+        ap (map (full_row rests' bases')) e
+        ∙ map_push (full_row rests' bases') slims slim
         ∙ ap₂ (λ rows row. rows ++ row ∷ []) (same_rows slims have)
-        (ap (λ rest. row_of rest slim) (get_or_from_slice_get rests' slim.rest (rest_of row) no_rest there) ∙ is)
+        (ap₂ (λ rest own. row_of rest own slim) (get_or_from_slice_get rests' slim.rest (rest_of row) no_rest there) (get_or_from_slice_get bases' slim.bases (bases_of row) no_bases bases-there) ∙ is)

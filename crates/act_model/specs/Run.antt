@@ -1,7 +1,9 @@
 -- What runs and plans hold: lists in place of vectors. ACTUS event sequences.
-use Rattle.std.specs.Prelude.{ℤ, List}
+use Rattle.std.specs.Prelude.{ℤ, List, Bool, true, false}
 use Rattle.act_date.specs.Fraction.{Fraction}
 use Rattle.act_model.specs.declared.event.Event.{Event}
+use Rattle.act_model.specs.declared.event.EventType.{EventType}
+use Rattle.act_model.specs.declared.event.EventType.TheVariants.{TD, MD}
 use Rattle.act_model.specs.declared.run.Cells.{Cells}
 use Rattle.act_model.specs.declared.run.Close.{Close}
 use Rattle.act_model.specs.declared.run.Row.{Row}
@@ -28,3 +30,13 @@ pub record EventPlan : Type 0 where
   pub events : List Event
   pub redemptions : List ℤ
   pub periods : List Fraction
+
+-- the types of events that can end a contract
+abbrev pub can_end : EventType → Bool
+can_end TD = true
+can_end MD = true
+can_end other = false
+
+-- an event is a termination or a maturity
+abbrev pub may_end : Event → Bool
+may_end event = can_end event.kind

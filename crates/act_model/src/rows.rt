@@ -92,7 +92,7 @@ impl Rows {
     }
 
     /// The row at a place, from 0.
-    #[inline]
+    #[inline(always)]
     pub fn row(&self, place: usize) -> Row
         requires { place < length self.now }
         ensures { slice_get self.now place ≡ Some result }
@@ -102,7 +102,7 @@ impl Rows {
     }
 
     /// What is printed of the row at a place, from 0.
-    #[inline]
+    #[inline(always)]
     pub fn cells(&self, place: usize) -> Cells
         requires { place < length self.now }
         ensures { option_map cells_of (slice_get self.now place) ≡ Some result }
@@ -113,7 +113,7 @@ impl Rows {
 }
 
 /// The rows that stand behind so many full chunks: those of the next one, and else the last.
-#[inline]
+#[inline(always)]
 fn behind<'a>(full: &'a [Arc<Chunk, Global>], last: &'a Chunk, chunks: usize) -> &'a Chunk
     ensures { result.now ≡ next_rows (slice_get (map arc_value full.now) chunks) last.now }
 {

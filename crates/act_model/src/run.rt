@@ -1,5 +1,7 @@
 //! Plans and runs.
-ghost use Rattle.std.specs.Prelude.{◌≡◌};
+ghost use Rattle.std.specs.Prelude.{◌≡◌, IfOk};
+ghost use Rattle.std.specs.List.{filter};
+ghost use Rattle.act_model.specs.Run.{may_end};
 ghost use Rattle.act_model.specs.declared.run.PlanFault.TheVariants as faults;
 
 use crate::event::{Event, EventType};
@@ -7,7 +9,7 @@ use crate::rows::Rows;
 use crate::state::State;
 use act_date::{Day, Frac};
 use act_num::{Fixed, NoMemory};
-use std::alloc::{AllocError, AllocFailed};
+use std::alloc::{AllocError, AllocFailed, Global};
 use std::marker::Model;
 
 /// What an event pays, and the state that it leaves.
@@ -113,14 +115,67 @@ pub struct Plan {
     pub redemptions: Vec<Day>,
     /// The parts of a year between these days.
     pub periods: Vec<Frac>,
+    /// Of the events the terminations and the maturities, which are asked for at each event before a purchase.
+    ends: Vec<Event>,
 }
 
 impl Model for Plan {
-    ghost use Rattle.act_model.specs.Run.{EventPlan};
+    ghost use Rattle.std.specs.Prelude.{◌≡◌};
+    ghost use Rattle.std.specs.List.{filter};
+    ghost use Rattle.act_model.specs.Run.{EventPlan, may_end};
 
     ghost Value = { EventPlan };
 
     ghost view = { λ p. record { events = p.events.items; redemptions = p.redemptions.items; periods = p.periods.items } };
+
+    ghost invariant = { λ p. p.ends.items ≡ filter may_end p.events.items };
+}
+
+impl Plan {
+    /// The plan of these events, redemptions and periods.
+    pub fn new(
+        events: Vec<Event>,
+        redemptions: Vec<Day>,
+        periods: Vec<Frac>,
+    ) -> Result<Plan, NoMemory>
+        ensures { IfOk result (λ plan. plan
+            ≡ record { events = events.items; redemptions = redemptions.items; periods = periods.items }) }
+    {
+        let ends = ends_of(*events.allocator(), &events)?;
+        Ok(Plan {
+            events,
+            redemptions,
+            periods,
+            ends,
+        })
+    }
+
+    /// Of the events the terminations and the maturities, in order: each event that can end the contract.
+    pub fn ends(&self) -> &[Event]
+        ensures { result.now ≡ filter may_end self.now.events }
+    {
+        &self.ends
+    }
+}
+
+/// Of events the terminations and the maturities.
+fn ends_of(alloc: Global, events: &[Event]) -> Result<Vec<Event>, NoMemory>
+    ensures { IfOk result (λ ends. ends.items ≡ filter may_end events.now) }
+{
+    let mut ends = Vec::new(alloc);
+    'events: for event in events {
+        if may_end(event) {
+            ends.push(*event)?;
+        }
+    }
+    Ok(ends)
+}
+
+/// Whether an event is a termination or a maturity.
+fn may_end(event: &Event) -> bool
+    ensures { result ≡ may_end event.now }
+{
+    matches!(event.kind, EventType::TD | EventType::MD)
 }
 
 /// Why terms have no plan.

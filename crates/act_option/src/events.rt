@@ -28,11 +28,7 @@ pub(crate) fn exercise_plan(
     ensures { result ≢ Err PlanFault.NoMemory → result ≡ Ok (exercise_plan common.now period maturity) }
 {
     match exercised_in_order(alloc, common, period, maturity) {
-        Ok(events) => Ok(Plan {
-            events,
-            redemptions: Vec::new(alloc),
-            periods: Vec::new(alloc),
-        }),
+        Ok(events) => Ok(Plan::new(events, Vec::new(alloc), Vec::new(alloc))?),
         Err(_) => Err(PlanFault::NoMemory),
     }
 }

@@ -1,12 +1,11 @@
 -- The rows of a run that are dated before a day: its first ones, where they stand by their days.
-use Rattle.std.proofs.Common.{◌≡◌, ℕ, zero, suc, ◌+◌, ◌≤◌, true, false, ℤ, int_lt, ◌≤ℤ◌, List, [], ◌∷◌, ◌++◌, length, take, drop, slice_get, Some, inl, inr, refl, sym, ap, ◌∙◌, append-nil, arith}
+use Rattle.std.proofs.Common.{◌≡◌, ℕ, zero, suc, ◌+◌, ◌<◌, ◌≤◌, true, false, ℤ, int_lt, ◌≤ℤ◌, List, [], ◌∷◌, ◌++◌, length, take, drop, slice_get, Some, inl, inr, refl, sym, ap, ◌∙◌, append-nil, arith}
 use Rattle.std.specs.List.{All, AllPairs, filter}
+use Rattle.std.proofs.Math.Seq.{drop-length}
 use Rattle.std.proofs.lemmas.Bool.{cases_Bool}
 use Rattle.std.proofs.lemmas.Int.{ints}
 use Rattle.std.proofs.lemmas.List.{take-append-drop}
 use Rattle.std.proofs.lemmas.List.Elements.{filter-append}
-use Rattle.std.proofs.lemmas.Option.{get_or_from_slice_get}
-use Rattle.act_model.proofs.Lists.{next_of}
 use Rattle.act_model.specs.declared.run.Row.{Row}
 use Rattle.act_swap.specs.Children.{AreInDayOrder}
 use Rattle.act_run.proofs.DayOrder.{RowsAscend, RowsFrom}
@@ -62,7 +61,11 @@ module _ (day : ℤ) where
   pub early_first : (rows : List Row) → AreInDayOrder rows → take (length (early rows)) rows ≡ early rows
   early_first rows order = stand_first rows (rows_ascend rows order)
 
-  -- ---- found from behind
+  -- ---- found by halves
+
+  -- the first rows, so many, are dated before the day
+  pub record AllBefore (rows : List Row) (k : ℕ) : Type 0 where
+    pub early : early (take k rows) ≡ take k rows
 
   -- none of the rows behind the first k is dated before the day
   pub record NoneBehind (rows : List Row) (k : ℕ) : Type 0 where
@@ -84,26 +87,36 @@ module _ (day : ℤ) where
       early-first row (take (suc k) rows) (early-before row at is (early-at row rows (suc k) at here up))
       ∙ ap (λ more. row ∷ more) (all_early rows k at here is up.1)
 
-  -- one more
-  pub late_more : (rows : List Row) (k count : ℕ) (at : Row) → NoneBehind rows count → count ≡ k + 1 → slice_get rows k ≡ Some at → int_lt at.day day ≡ false → NoneBehind rows k
-  late_more rows k count at none is here late =
-      let within = none.within in
-      let next : drop k rows ≡ at ∷ drop (k + 1) rows = next_of rows k at (omega (arith, within, is)) (sym (get_or_from_slice_get rows k at at here)) in
-      record {
-        within = omega (arith, within, is);
-        late = ap early next ∙ late-first at (drop (k + 1) rows) late ∙ ap (λ (n : ℕ). early (drop n rows)) (sym is) ∙ none.late;
-      }
-
-  split : (rows : List Row) (k : ℕ) → NoneBehind rows k → early (take k rows) ≡ take k rows → early rows ≡ take k rows
-  split rows k none first =
-      ap early (sym (take-append-drop k rows)) ∙ filter-append (λ (row : Row). int_lt row.day day) (take k rows) (drop k rows)
-      ∙ ap (λ more. early (take k rows) ++ more) none.late ∙ append-nil (early (take k rows)) ∙ first
-
-  -- those up to one that is dated before the day, behind which none is
-  pub early_up_to : (rows : List Row) (k count : ℕ) (at : Row) → AreInDayOrder rows → NoneBehind rows count → count ≡ k + 1 → slice_get rows k ≡ Some at → int_lt at.day day ≡ true → early rows ≡ take count rows
-  early_up_to rows k count at order none is here before =
+  -- with one that is dated before the day, those up to it are
+  pub all_before : (rows : List Row) (k count : ℕ) (at : Row) → AreInDayOrder rows → count ≡ k + 1 → slice_get rows k ≡ Some at → int_lt at.day day ≡ true → AllBefore rows count
+  all_before rows k count at order is here before =
       let next : count ≡ suc k = omega (arith, is) in
-      split rows count none (rw next (all_early rows k at here before (rows_ascend rows order)))
+      record { early = rw next (all_early rows k at here before (rows_ascend rows order)) }
 
-  pub early_none : (rows : List Row) (count : ℕ) → NoneBehind rows count → count ≡ 0 → early rows ≡ take count rows
-  early_none rows count none is = split rows count none (rw is refl)
+  early-late : (row at : Row) → slice_get (row ∷ []) 0 ≡ Some at → int_lt at.day day ≡ false → int_lt row.day day ≡ false
+  early-late row at here late = grind (arith, ints)
+
+  all_late : (rows : List Row) (k : ℕ) (at : Row) → slice_get rows k ≡ Some at → int_lt at.day day ≡ false → RowsAscend rows → early (drop k rows) ≡ []
+  all_late [] zero at here late up = refl
+  all_late [] (suc k) at here late up = refl
+  all_late (row ∷ rows) zero at here late up =
+      let first : int_lt row.day day ≡ false = early-late row at here late in
+      late-first row rows first ∙ none_behind row rows first up.0
+  all_late (row ∷ rows) (suc k) at here late up = all_late rows k at here late up.1
+
+  -- with one that isn't, none from it on is
+  pub none_from : (rows : List Row) (k : ℕ) (at : Row) → AreInDayOrder rows → k < length rows → slice_get rows k ≡ Some at → int_lt at.day day ≡ false → NoneBehind rows k
+  none_from rows k at order within here late = record { within = omega (arith, within); late = all_late rows k at here late (rows_ascend rows order) }
+
+  pub none_before_first : (rows : List Row) → AllBefore rows 0
+  none_before_first rows = record { early = refl }
+
+  pub none_behind_last : (rows : List Row) (count : ℕ) → count ≡ length rows → NoneBehind rows count
+  none_behind_last rows count is = record { within = omega (arith, is); late = ap (λ n. early (drop n rows)) is ∙ ap early (drop-length rows) }
+
+  -- where the two meet, the first rows are those that are dated before the day
+  pub early_are : (rows : List Row) (from to : ℕ) → AllBefore rows from → NoneBehind rows to → from ≡ to → early rows ≡ take from rows
+  early_are rows from to first none is =
+      let late : early (drop from rows) ≡ [] = ap (λ n. early (drop n rows)) is ∙ none.late in
+      ap early (sym (take-append-drop from rows)) ∙ filter-append (λ (row : Row). int_lt row.day day) (take from rows) (drop from rows)
+      ∙ ap (λ more. early (take from rows) ++ more) late ∙ append-nil (early (take from rows)) ∙ first.early

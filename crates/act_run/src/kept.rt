@@ -46,20 +46,23 @@ pub(crate) fn kept_count(run: &Run, cut: Option<Day>) -> Option<usize>
     }
 }
 
-/// How many rows are dated before a day, where they stand by their days. It looks at those behind them alone.
+/// How many rows are dated before a day, where they stand by their days: a binary search.
 fn count_before(rows: &Rows, day: Day) -> usize
     requires { AreInDayOrder rows.now }
     ensures count { filter (λ row. int_lt row.day day) rows.now ≡ take result rows.now }
     ensures within { result ≤ length rows.now }
 {
-    let mut left = rows.count();
-    'rows: while left > 0 {
-        if is_before(&rows.row(left - 1), day) {
-            return left;
+    let mut from = 0;
+    let mut to = rows.count();
+    'rows: while from < to {
+        let middle = from + (to - from) / 2;
+        if is_before(&rows.row(middle), day) {
+            from = middle + 1;
+        } else {
+            to = middle;
         }
-        left -= 1;
     }
-    0
+    from
 }
 
 /// Whether a row is dated before a day.

@@ -2,6 +2,7 @@ mod Adding
 mod Cutting
 mod EntryForms
 mod Members
+mod PlainEvents
 mod PlainRates
 mod ScriptLines
 mod Soundness

@@ -35,7 +35,7 @@ rate_data code date number =
 abbrev line_data : List ℕ → List ℕ → List ℕ → Data
 line_data code date number = object (member (codes "rate") (rate_data code date number) no_members)
 
-abbrev read_tokens : List Token → Option Data
+abbrev pub read_tokens : List Token → Option Data
 read_tokens ts = option_and_then of_json (option_and_then (λ p. Rattle.json.specs.Json.if_last p.0 p.1) (value 127 ts))
 
 tokens_read : (code date number : List ℕ) → read_tokens (rate_tokens code date number) ≡ Some (line_data code date number)
@@ -49,15 +49,15 @@ line_read line code date number utf8 same are = rw (same, is_utf8-from_IsUtf8 li
 
 -- ---- a text that isn't empty gives what it says, and the empty text says nothing
 
-no_name : name_of [] ≡ None
+pub no_name : name_of [] ≡ None
 unfolding has_form
 no_name = refl
 
-no_day : result_ok (day_of []) ≡ None
+pub no_day : result_ok (day_of []) ≡ None
 unfolding day_of has_digits_behind
 no_day = refl
 
-no_number : result_ok (decimal_of []) ≡ None
+pub no_number : result_ok (decimal_of []) ≡ None
 unfolding decimal_parts
 no_number = refl
 
@@ -65,7 +65,7 @@ what_is_said : {A : Type 0} (fault : JsonFault) (found : Option A) → given (re
 what_is_said fault None = refl
 what_is_said fault (Some a) = refl
 
-field_says : {A : Type 0} (says : List ℕ → Option A) (fault : JsonFault) (text : List ℕ) → says [] ≡ None
+pub field_says : {A : Type 0} (says : List ℕ → Option A) (fault : JsonFault) (text : List ℕ) → says [] ≡ None
     → given (meaning_of says fault (text_of (string text))) ≡ says text
 field_says says fault [] none = sym none
 field_says says fault (t ∷ text) none = what_is_said fault (says (t ∷ text))

@@ -6,7 +6,7 @@ ghost use Rattle.act_json.specs.Fields.{day_field, decimal_field, field_of, word
 ghost use Rattle.act_model.specs.Name.{is_name};
 ghost use Rattle.act_script.specs.Form.{ask_form, credit_kind, event_form, form_of, given, happening, named_form, only_member, rate_form};
 
-use crate::plain::plain_rate;
+use crate::plain::plain_form;
 use act_date::Day;
 use act_json::{JsonFault, day, decimal, read, required, text, word};
 use act_model::{ObsKind, is_name};
@@ -82,7 +82,7 @@ pub(crate) fn read_form(
 ) -> Result<Form, JsonFault>
     ensures { result ≢ Err JsonFault.NoMemory → result_ok result ≡ form_of line.now }
 {
-    match plain_rate(alloc, line, scratch) {
+    match plain_form(alloc, line, scratch) {
         Ok(Some(form)) => Ok(form),
         Ok(None) => read_any_form(alloc, line),
         Err(_) => Err(JsonFault::NoMemory),

@@ -1,22 +1,25 @@
-//! Rates in the form that they are mostly written in, `{"rate":{"code":..,"date":..,"value":..}}` with these three names in
-//! this order and all in quotes. They are read without a JSON value; what is written otherwise is left to that.
+//! Rates, prepayments and dividends in the form that they are mostly written in, `{"rate":{"code":..,"date":..,"value":..}}` and
+//! `{"event":{"contract":..,"type":..,"date":..,"value":..}}` with these names in this order and all in quotes. They are read
+//! without a JSON value; what is written otherwise is left to that.
 ghost use Rattle.std.specs.Prelude.{◌≡◌, ◌∷◌, [], Some, codes, IfOk, IfSome, IsTrue};
 ghost use Rattle.std.specs.Option.{ForSome};
-ghost use Rattle.json.specs.Lex.{tokens};
 ghost use Rattle.json.specs.Token.{begin_object, end_object, key, string};
 ghost use Rattle.act_script.specs.Form.{form_of};
-ghost use Rattle.act_script.specs.Plain.{plain_rate, rate_tokens};
+ghost use Rattle.act_script.specs.Plain.{event_tokens, plain_event, plain_kind, plain_rate, rate_tokens};
 
 use crate::form::{Form, Name};
 use act_date::parse_day;
 use act_json::is_quoted;
-use act_model::is_name;
+use act_model::{ObsKind, is_name};
 use act_num::{Fixed, NoMemory};
 use json::{Reader, Scratch, Token};
 use std::alloc::Global;
 
-/// What a rate in that form begins with. A line that doesn't isn't looked at further.
-const BEGINNING: &[u8] = b"{\"rate\"";
+/// What a rate in that form begins with.
+const RATE: &[u8] = b"{\"rate\"";
+
+/// What an event in that form begins with. A line that begins with neither isn't looked at further.
+const EVENT: &[u8] = b"{\"event\"";
 
 /// The texts of a rate.
 #[derive(Clone, Copy)]
@@ -26,16 +29,26 @@ struct RateTexts<'a> {
     value: &'a str,
 }
 
-/// The rate that a line says, where it is written in that form and each of its texts has its own. `scratch` is room for
+/// The texts of an event.
+#[derive(Clone, Copy)]
+struct EventTexts<'a> {
+    contract: &'a str,
+    kind: &'a str,
+    date: &'a str,
+    value: &'a str,
+}
+
+/// What a line says, where it is written in one of these forms and each of its texts has its own. `scratch` is room for
 /// reading.
-pub(crate) fn plain_rate(
+pub(crate) fn plain_form(
     alloc: Global,
     line: &[u8],
     scratch: &mut Scratch,
 ) -> Result<Option<Form>, NoMemory>
     ensures { IfOk result (λ found. ForSome found (λ form. form_of line.now ≡ Some form)) }
 {
-    if !line.starts_with(BEGINNING) {
+    let is_rate = line.starts_with(RATE);
+    if !is_rate && !line.starts_with(EVENT) {
         return Ok(None);
     }
     if !is_quoted(line) {
@@ -44,48 +57,71 @@ pub(crate) fn plain_rate(
     let Ok(text) = str::from_utf8(line) else {
         return Ok(None);
     };
-    match rate_texts(text, scratch) {
-        Some(texts) => rate_of(alloc, texts),
-        None => Ok(None),
-    }
-}
-
-/// The texts of a rate in that form.
-fn rate_texts<'a>(text: &'a str, scratch: &'a mut Scratch) -> Option<RateTexts<'a>>
-    ensures { IfSome result (λ texts. tokens text.now ≡ rate_tokens texts.code.now texts.date.now texts.value.now) }
-{
     let Ok(mut reader) = Reader::new(text, scratch) else {
-        return None;
+        return Ok(None);
     };
-    rate_tokens(&mut reader)
+    if is_rate {
+        match rate_tokens(&mut reader) {
+            Some(texts) => rate_of(alloc, texts),
+            None => Ok(None),
+        }
+    } else {
+        match event_tokens(&mut reader) {
+            Some(texts) => event_of(alloc, texts),
+            None => Ok(None),
+        }
+    }
 }
 
 /// The texts of a rate, whose tokens are all that is left.
 fn rate_tokens<'a>(reader: &mut Reader<'a>) -> Option<RateTexts<'a>>
     ensures { IfSome result (λ texts. reader.old ≡ rate_tokens texts.code.now texts.date.now texts.value.now) }
 {
-    if !begins_rate(reader) {
+    if !begins(reader, "rate") {
         return None;
     }
     let code = member(reader, "code")?;
     let date = member(reader, "date")?;
     let value = member(reader, "value")?;
-    if ends_rate(reader) {
+    if ends(reader) {
         Some(RateTexts { code, date, value })
     } else {
         None
     }
 }
 
-/// Whether the tokens up to the members of a rate come next, which are then passed.
-fn begins_rate(reader: &mut Reader<'_>) -> bool
-    ensures { IsTrue result → reader.old ≡ begin_object ∷ key (codes "rate") ∷ begin_object ∷ reader.new }
+/// The texts of an event, whose tokens are all that is left.
+fn event_tokens<'a>(reader: &mut Reader<'a>) -> Option<EventTexts<'a>>
+    ensures { IfSome result (λ texts. reader.old ≡ event_tokens texts.contract.now texts.kind.now texts.date.now texts.value.now) }
 {
-    opens(reader) && names(reader, "rate") && opens(reader)
+    if !begins(reader, "event") {
+        return None;
+    }
+    let contract = member(reader, "contract")?;
+    let kind = member(reader, "type")?;
+    let date = member(reader, "date")?;
+    let value = member(reader, "value")?;
+    if ends(reader) {
+        Some(EventTexts {
+            contract,
+            kind,
+            date,
+            value,
+        })
+    } else {
+        None
+    }
 }
 
-/// Whether the tokens behind the members of a rate are all that is left.
-fn ends_rate(reader: &mut Reader<'_>) -> bool
+/// Whether the tokens up to the members of what has that name come next, which are then passed.
+fn begins(reader: &mut Reader<'_>, name: &str) -> bool
+    ensures { IsTrue result → reader.old ≡ begin_object ∷ key name.now ∷ begin_object ∷ reader.new }
+{
+    opens(reader) && names(reader, name) && opens(reader)
+}
+
+/// Whether the tokens behind the members are all that is left.
+fn ends(reader: &mut Reader<'_>) -> bool
     ensures { IsTrue result → reader.old ≡ end_object ∷ end_object ∷ [] }
 {
     closes(reader) && closes(reader) && reader.next().is_none()
@@ -144,4 +180,41 @@ fn rate_of(alloc: Global, texts: RateTexts<'_>) -> Result<Option<Form>, NoMemory
     };
     let code = Name::new(alloc, texts.code)?;
     Ok(Some(Form::Rate { code, day, value }))
+}
+
+/// The event of four texts, where each has its form.
+#[tactic(auto, unfolding(crate::specs::Plain::plain_event))]
+fn event_of(alloc: Global, texts: EventTexts<'_>) -> Result<Option<Form>, NoMemory>
+    ensures { IfOk result (λ found. ForSome found (λ form. plain_event texts.entry.contract.now texts.entry.kind.now texts.entry.date.now texts.entry.value.now ≡ Some form)) }
+{
+    if !is_name(texts.contract) {
+        return Ok(None);
+    }
+    let Ok(day) = parse_day(texts.date.as_bytes()) else {
+        return Ok(None);
+    };
+    let Some(kind) = plain_kind(texts.kind) else {
+        return Ok(None);
+    };
+    let Ok(value) = Fixed::parse(texts.value.as_bytes()) else {
+        return Ok(None);
+    };
+    let contract = Name::new(alloc, texts.contract)?;
+    Ok(Some(Form::Event {
+        contract,
+        kind,
+        day,
+        value,
+    }))
+}
+
+/// The kind of an event of that type, where its value is an amount.
+fn plain_kind(event_type: &str) -> Option<ObsKind>
+    ensures { result ≡ plain_kind event_type.now }
+{
+    match event_type {
+        "PP" => Some(ObsKind::PP),
+        "DV" => Some(ObsKind::DV),
+        _ => None,
+    }
 }

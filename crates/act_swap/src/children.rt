@@ -54,6 +54,7 @@ impl<'a> ChildRun<'a> {
     }
 
     /// The row at a place, from 0.
+    #[inline(always)]
     pub(crate) fn row(&self, place: usize) -> Row
         requires { place < length self.now.rows }
         ensures { slice_get self.now.rows place ≡ Some result }
@@ -65,6 +66,7 @@ impl<'a> ChildRun<'a> {
     }
 
     /// The row at a place, or None past the last.
+    #[inline(always)]
     fn get(&self, place: usize) -> Option<Row>
         ensures { result ≡ slice_get self.now.rows place }
     {
@@ -77,6 +79,7 @@ impl<'a> ChildRun<'a> {
 }
 
 /// The row of a child at a place, or None where there is none.
+#[inline(always)]
 pub(crate) fn row_at(children: &[Arc<Run, Global>], leg: u8, row: u32) -> Option<Row>
     ensures { result ≡ row_at (map arc_value children.now) leg row }
 {

@@ -126,6 +126,7 @@ fn add_netted(
 }
 
 /// Adds the event of a row of a netted leg, if it makes one, by the place of its partner.
+#[inline(always)]
 fn add_row(
     events: &mut Vec<Event>,
     side: Side,
@@ -144,6 +145,7 @@ fn add_row(
 }
 
 /// Whether a row is taken: it is after the status date, and no credit event.
+#[inline(always)]
 fn is_taken(status_date: Day, row: &Row) -> bool
     ensures { result ≡ is_taken status_date row.now }
 {
@@ -151,6 +153,7 @@ fn is_taken(status_date: Day, row: &Row) -> bool
 }
 
 /// The event that a row of a leg makes.
+#[inline(always)]
 fn leg_event(leg: u8, place: u32, row: &Row) -> Event
     ensures { result ≡ leg_event leg (place, row.now) }
 {
@@ -164,6 +167,7 @@ fn leg_event(leg: u8, place: u32, row: &Row) -> Event
 }
 
 /// The event that two interest rows make together, by their places.
+#[inline(always)]
 pub(crate) fn net_event(first: u32, row: &Row, second: u32) -> Event
     ensures { result ≡ net_event (first, row.now) (second, row.now) }
 {
@@ -257,6 +261,7 @@ fn nth_like(row: &Row, run: &ChildRun<'_>, from: usize, n: usize) -> Option<usiz
 }
 
 /// Whether two rows of different legs are netted: both are interest of one day and currency.
+#[inline(always)]
 fn is_netted_with(a: &Row, b: &Row) -> bool
     ensures { result ≡ is_like a.now b.now }
 {

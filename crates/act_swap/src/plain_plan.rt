@@ -40,11 +40,7 @@ impl PlainSwap<'_> {
         ensures { result ≢ Err PlanFault.NoMemory → result ≡ plain_swap_plan self.now.common self.now.swap }
     {
         let events = self.events_in_order(alloc, types)?;
-        Ok(Plan {
-            events,
-            redemptions: Vec::new(alloc),
-            periods: Vec::new(alloc),
-        })
+        Ok(Plan::new(events, Vec::new(alloc), Vec::new(alloc))?)
     }
 
     /// The scheduled events in order, or the first fault.

@@ -48,6 +48,7 @@ impl<'a> RowLines<'a> {
     }
 
     /// How many lines there are.
+    #[inline]
     pub fn count(&self) -> usize
         ensures { result ≡ length self.now.rows }
     {
@@ -55,6 +56,7 @@ impl<'a> RowLines<'a> {
     }
 
     /// The line at a place, from 0.
+    #[inline]
     pub fn line(&self, place: usize) -> &[u8]
         requires { place < length self.now.rows }
         ensures { slice_get (map (row_text self.now.names) self.now.rows) place ≡ Some result.now }
@@ -109,6 +111,7 @@ fn count_alike(one: &Rows, other: &Rows, most: usize) -> usize
 }
 
 /// Where the line at a place begins, or would begin behind the last.
+#[inline]
 fn start_of(ends: &[usize], place: usize) -> usize
     requires { place ≤ length ends.now }
     ensures { start_at ends.now place ≡ Some result }

@@ -36,6 +36,7 @@ impl From<NoMemory> for Stop {
 }
 
 /// Writes a line whole, or stops at a fault.
+#[inline]
 pub fn write_line<K: Sink>(out: &mut K, line: &[u8]) -> Result<(), Stop>
     ensures text { Writes result line.now (K.written out.old) (K.written out.new) }
     ensures faults { K.faults out.new ≡ faults_after result (K.faults out.old) }

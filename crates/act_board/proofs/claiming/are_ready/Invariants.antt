@@ -3,6 +3,12 @@ use Rattle.act_board.specs.History.{History, has_result}
 use Rattle.act_board.specs.Kept.{Keeps}
 use Rattle.act_board.proofs.claiming.are_ready.Given as goal
 
--- those before this one have results
-abbrev pub invariant-loop-contract : goal.invariant-loop-contract
-invariant-loop-contract l = (history : History) → Keeps l.portfolio l.pairs history → (k : ℕ) → l.first ≤ k → k < l.contract → has_result history k l.version ≡ true
+-- those from this one on have results
+abbrev pub invariant-loop-left : goal.invariant-loop-left
+invariant-loop-left l = record {
+  within : l.left ≤ l.end;
+  ready : (history : History) → Keeps l.portfolio l.pairs history → (k : ℕ) → l.left ≤ k → k < l.end → has_result history k l.version ≡ true;
+}
+
+abbrev pub decreases-loop-left : goal.decreases-loop-left
+decreases-loop-left l = l.left

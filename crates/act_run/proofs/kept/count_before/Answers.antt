@@ -1,13 +1,33 @@
-use Rattle.std.proofs.Common.{◌≡◌, ◌+◌, ◌-◌, arith, sym, ◌∙◌}
-use Rattle.act_run.proofs.FirstRows.{early_up_to, late_more}
+use Rattle.std.proofs.Common.{◌+◌, ◌-◌, ◌/◌, ◌<◌, length, refl, sym, ◌∙◌, arith}
+use Rattle.act_run.proofs.FirstRows.{all_before, early_are, none_behind_last, none_before_first, none_from}
 use Rattle.act_run.proofs.kept.count_before.Goals as goal
 
-pub returns-then-is_before-clause-count : goal.returns-then-is_before-clause-count
-returns-then-is_before-clause-count c =
-    let count : c.rows.left ≡ (c.rows.left - 1) + 1 = omega (arith, c.rows-test.true) in
-    early_up_to c.args.day c.args.rows.now (c.rows.left - 1) c.rows.left c.row.result c.requires c.rows.invariant count c.row.ensures (sym c.is_before.ensures ∙ c.if-is_before.true)
+pub rows-init : goal.rows-init
+rows-init c = record {
+  order = omega arith;
+  first = none_before_first c.args.day c.args.rows.now;
+  none = none_behind_last c.args.day c.args.rows.now c.count-to.result c.count-to.ensures;
+}
+
+pub rows-preserved-then-is_before : goal.rows-preserved-then-is_before
+rows-preserved-then-is_before c =
+    let middle = c.rows.from + (c.rows.to - c.rows.from) / 2 in
+    record {
+      order = omega (arith, c.rows-test.true);
+      first = all_before c.args.day c.args.rows.now middle (middle + 1) c.row.result c.requires refl c.row.ensures (sym c.is_before.ensures ∙ c.if-is_before.true);
+      none = c.rows.invariant.none;
+    }
 
 pub rows-preserved : goal.rows-preserved
 rows-preserved c =
-    let count : c.rows.left ≡ (c.rows.left - 1) + 1 = omega (arith, c.rows-test.true) in
-    late_more c.args.day c.args.rows.now (c.rows.left - 1) c.rows.left c.row.result c.rows.invariant count c.row.ensures (sym c.is_before.ensures ∙ c.if-is_before.false)
+    let middle = c.rows.from + (c.rows.to - c.rows.from) / 2 in
+    let within : middle < length c.args.rows.now = omega (arith, c.rows-test.true, c.rows.invariant.none.within) in
+    record {
+      order = omega arith;
+      first = c.rows.invariant.first;
+      none = none_from c.args.day c.args.rows.now middle c.row.result c.requires within c.row.ensures (sym c.is_before.ensures ∙ c.if-is_before.false);
+    }
+
+pub returns-clause-count : goal.returns-clause-count
+returns-clause-count c =
+    early_are c.args.day c.args.rows.now c.rows.from c.rows.to c.rows.invariant.first c.rows.invariant.none (omega (arith, c.rows-test.false, c.rows.invariant.order))
