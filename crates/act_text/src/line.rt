@@ -39,6 +39,13 @@ impl TextLine {
         }
     }
 
+    /// Makes it a line of nothing again.
+    pub fn clear(&mut self)
+        ensures { self.new ≡ [] }
+    {
+        self.end = 0;
+    }
+
     /// Its bytes so far.
     pub fn as_bytes(&self) -> &[u8]
         ensures { result.now ≡ self.now }

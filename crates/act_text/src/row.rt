@@ -9,22 +9,30 @@ use act_date::Day;
 use act_model::{Close, EventType, Names, Row};
 use act_num::NoMemory;
 
-/// Adds the line of a row to `out`: day, type, currency, payoff, and of the state after the event the notional, the
-/// rate and the interest accrued. The number of a currency that has no name is left empty. Where memory runs out, `out` is
-/// as before.
+/// Adds the line of a row to `out`, as [`put_row`] puts it together. Where memory runs out, `out` is as before.
 pub fn row_line(names: &Names, row: &Row, out: &mut Vec<u8>) -> Result<(), NoMemory>
     ensures ok { OnOk result (out.new.items ≡ out.old.items ++ row_text names.now row.now) }
     ensures err { OnErr result (out.new.items ≡ out.old.items) }
 {
     let mut line = TextLine::new();
+    put_row(names, row, &mut line);
+    Ok(out.extend_from_slice(line.as_bytes())?)
+}
+
+/// Puts the line of a row in `line`, in place of what stood there: day, type, currency, payoff, and of the state after the
+/// event the notional, the rate and the interest accrued. The number of a currency that has no name is left empty.
+pub fn put_row(names: &Names, row: &Row, line: &mut TextLine)
+    ensures { line.new ≡ row_text names.now row.now }
+{
+    line.clear();
     line.push_day(row.day);
     line.push_word(type_word(row.kind));
-    push_name(&mut line, names.currency(row.currency));
+    push_name(line, names.currency(row.currency));
     line.push_number(row.payoff);
     line.push_number(row.state.nt);
     line.push_number(row.state.ipnr);
     line.push_number(row.state.ipac);
-    line.end(out)
+    line.push_bytes(b"\n");
 }
 
 /// Adds the line of how rows close to `out`: `end`, `missing` with the code and the day, or `overflow` with the day and

@@ -10,7 +10,7 @@ use crate::writing::{Stop, write_line};
 use act_io::Sink;
 use act_model::{Names, Row, Rows, Run};
 use act_num::NoMemory;
-use act_text::{RowLines, row_line};
+use act_text::{RowLines, TextLine, put_row};
 use std::alloc::Global;
 use std::sync::Arc;
 
@@ -34,7 +34,6 @@ pub(crate) fn no_lines<'a>(
 /// Writes the lines of a contract's rows, and keeps them where there is a place for the contract.
 pub(crate) fn write_rows<K: Sink>(
     out: &mut K,
-    line: &mut Vec<u8>,
     names: &Names,
     kept: &mut [RowLines<'_>],
     contract: u32,
@@ -49,7 +48,7 @@ pub(crate) fn write_rows<K: Sink>(
     if place < kept.len() {
         write_kept_rows(out, &mut kept[place], run)
     } else {
-        write_new_rows(out, line, names, &run.rows)
+        write_new_rows(out, names, &run.rows)
     }
 }
 
@@ -79,27 +78,27 @@ fn write_lines<K: Sink>(out: &mut K, lines: &RowLines<'_>) -> Result<(), Stop>
 }
 
 /// Writes the lines of rows, and keeps none.
-fn write_new_rows<K: Sink>(
-    out: &mut K,
-    line: &mut Vec<u8>,
-    names: &Names,
-    rows: &Rows,
-) -> Result<(), Stop>
+fn write_new_rows<K: Sink>(out: &mut K, names: &Names, rows: &Rows) -> Result<(), Stop>
     ensures text { Writes result (flat_map (row_text names.now) rows.now) (K.written out.old) (K.written out.new) }
     ensures faults { K.faults out.new ≡ faults_after result (K.faults out.old) }
 {
+    let mut line = TextLine::new();
     for place in 0..rows.count() {
-        write_row(out, line, names, &rows.row(place))?;
+        write_row(out, &mut line, names, &rows.row(place))?;
     }
     Ok(())
 }
 
 /// Writes the line of a row.
-fn write_row<K: Sink>(out: &mut K, line: &mut Vec<u8>, names: &Names, row: &Row) -> Result<(), Stop>
+fn write_row<K: Sink>(
+    out: &mut K,
+    line: &mut TextLine,
+    names: &Names,
+    row: &Row,
+) -> Result<(), Stop>
     ensures text { Writes result (row_text names.now row.now) (K.written out.old) (K.written out.new) }
     ensures faults { K.faults out.new ≡ faults_after result (K.faults out.old) }
 {
-    line.clear();
-    row_line(names, row, line)?;
-    write_line(out, line)
+    put_row(names, row, line);
+    write_line(out, line.as_bytes())
 }

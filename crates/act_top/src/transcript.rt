@@ -315,7 +315,7 @@ fn write_run<K: Sink>(
     ensures kept { AreWrittenWith names.now kept.new }
 {
     write_block_head(out, line, names, contract)?;
-    write_rows(out, line, names, kept, contract, run)?;
+    write_rows(out, names, kept, contract, run)?;
     write_close(out, line, names, &run.close)
 }
 
