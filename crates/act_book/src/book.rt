@@ -1,9 +1,11 @@
 //! A book of observations.
 ghost use Rattle.std.specs.Prelude.{◌≡◌, ◌≤◌, ◌+◌, ◌*◌, ◌↔◌, [], ◌∷◌, ◌++◌, Err, true, length, take, IfOk, IfErr};
 ghost use Rattle.act_model.specs.Observed.{is_entry};
+ghost use Rattle.std.specs.Arc.{arc_value};
 ghost use Rattle.act_book.specs.Runs.{AreRuns, EndsAt};
 ghost use Rattle.act_book.specs.declared.book.BookFault.TheVariants.{BookFull};
 
+use crate::recent::{PART, count_of, with_run};
 use crate::run::Run;
 use crate::snapshot::Snapshot;
 use act_model::{MOST_ENTRIES, Obs};
@@ -12,7 +14,7 @@ use std::alloc::Global;
 use std::marker::Model;
 use std::sync::Arc;
 
-/// How many entries a chunk has. A run has one chunk, two, four, and so on.
+/// How many entries a chunk has. A run that ends with a chunk has one, two, four, and so on.
 pub const CHUNK: usize = 256;
 
 /// Why an entry isn't added.
@@ -31,6 +33,9 @@ pub struct Book {
     /// For each full chunk the run that ends with it. The run of chunk n, counted from 1, has as many chunks as the greatest
     /// power of two that divides n, so that the first n chunks are at most twelve runs.
     runs: Vec<Arc<Run, Global>>,
+    /// Runs of the entries behind the full chunks, one behind another, each longer than the next.
+    /// They have all those entries but the last, of which there are no more than a part has.
+    recent: Vec<Arc<Run, Global>>,
 }
 
 impl Model for Book {
@@ -38,13 +43,13 @@ impl Model for Book {
     ghost use Rattle.std.specs.Prelude.{◌≤◌, List, length};
     ghost use Rattle.act_model.specs.declared.observed.Obs.{Obs};
     ghost use Rattle.act_book.specs.Entries.{AreEntries};
-    ghost use Rattle.act_book.specs.Runs.{AreRuns};
+    ghost use Rattle.act_book.specs.Runs.{AreRecent, AreRuns};
 
     ghost Value = { List Obs };
 
     ghost view = { λ b. b.entries.items };
 
-    ghost invariant = { λ b. AreEntries b.entries.items × (length b.entries.items ≤ most_entries) × AreRuns b.entries.items b.runs.items };
+    ghost invariant = { λ b. AreEntries b.entries.items × (length b.entries.items ≤ most_entries) × AreRuns b.entries.items b.runs.items × AreRecent b.entries.items (length b.runs.items) b.recent.items };
 }
 
 impl Book {
@@ -55,6 +60,7 @@ impl Book {
         Book {
             entries: Vec::new(alloc),
             runs: Vec::new(alloc),
+            recent: Vec::new(alloc),
         }
     }
 
@@ -78,7 +84,7 @@ impl Book {
         if self.len() == MOST_ENTRIES {
             return Err(BookFault::BookFull);
         }
-        let Ok(()) = self.close_chunk() else {
+        let Ok(()) = self.close_runs() else {
             return Err(BookFault::NoMemory);
         };
         let Ok(_) = self.entries.push(entry) else {
@@ -87,16 +93,44 @@ impl Book {
         Ok(self.len())
     }
 
-    /// Makes the run that ends with the last full chunk, where there is none yet.
+    /// Makes the runs that end with the last entry, where there are none yet.
+    fn close_runs(&mut self) -> Result<(), NoMemory>
+        ensures { self.new ≡ self.old }
+    {
+        if self.entries.len() % PART != 0 {
+            return Ok(());
+        }
+        self.close_part()?;
+        self.close_chunk()
+    }
+
+    /// Makes a run of the next part without one, where all its entries are there.
+    fn close_part(&mut self) -> Result<(), NoMemory>
+        ensures { self.new ≡ self.old }
+    {
+        let start = CHUNK * self.runs.len() + count_of(&self.recent);
+        if self.entries.len() - start < PART {
+            return Ok(());
+        }
+        let alloc = *self.entries.allocator();
+        let part = Run::new(alloc, &self.entries[start..start + PART])?;
+        self.recent = with_run(alloc, &self.recent, part)?;
+        Ok(())
+    }
+
+    /// Makes the run that ends with the next chunk, where a recent run has the whole chunk.
     fn close_chunk(&mut self) -> Result<(), NoMemory>
         ensures { self.new ≡ self.old }
     {
-        if self.entries.len() / CHUNK <= self.runs.len() {
+        let Some(chunk) = self.recent.first() else {
+            return Ok(());
+        };
+        if chunk.entries().len() != CHUNK {
             return Ok(());
         }
-        let run = next_run(&self.entries, &self.runs)?;
-        let run = Arc::new(*self.entries.allocator(), run)?;
+        let run = next_run(&self.entries, &self.runs, chunk)?;
         self.runs.push(run)?;
+        self.recent.clear();
         Ok(())
     }
 
@@ -105,26 +139,30 @@ impl Book {
         requires within { v ≤ length self.now }
         ensures { IfOk result (λ seen. seen ≡ take v self.now) }
     {
-        Snapshot::first(&self.entries, &self.runs, v)
+        Snapshot::first(&self.entries, &self.runs, &self.recent, v)
     }
 }
 
-/// The run that ends with the first chunk that no run ends with. It takes in each run before it that is as long as it.
-fn next_run(entries: &Vec<Obs>, runs: &[Arc<Run, Global>]) -> Result<Run, NoMemory>
+/// The run that ends with the first chunk that no run ends with, where a run has that chunk. It takes
+/// in each run before it that is as long as it.
+fn next_run(
+    entries: &Vec<Obs>,
+    runs: &[Arc<Run, Global>],
+    chunk: &Arc<Run, Global>,
+) -> Result<Arc<Run, Global>, NoMemory>
     requires runs { AreRuns entries.now.items runs.now }
-    requires chunk { CHUNK * (length runs.now + 1) ≤ length entries.now.items }
-    ensures { IfOk result (λ run. EndsAt entries.now.items (length runs.now + 1) run) }
+    requires chunk { take (CHUNK * length runs.now) entries.now.items ++ arc_value chunk.now ≡ take (CHUNK * (length runs.now + 1)) entries.now.items }
+    ensures { IfOk result (λ run. EndsAt entries.now.items (length runs.now + 1) (arc_value run)) }
 {
     let mut front = runs.len();
     let mut chunks = 1;
-    let chunk = &entries[front * CHUNK..(front + 1) * CHUNK];
-    let mut run = Run::new(*entries.allocator(), chunk)?;
+    let mut run = Arc::try_clone(chunk)?;
     while front > 0 {
         let before = &runs[front - 1];
         if before.entries().len() != chunks * CHUNK {
             break;
         }
-        run = before.joined(&run)?;
+        run = Arc::new(*entries.allocator(), before.joined(&run)?)?;
         front -= chunks;
         chunks *= 2;
     }

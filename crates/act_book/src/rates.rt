@@ -12,13 +12,43 @@ use act_num::Fixed;
 pub fn latest_among(entries: &[Obs], code: u32, until: Day) -> Option<(Day, Fixed)>
     ensures { result ≡ latest_rate entries.now code until }
 {
-    let mut latest = None;
-    for entry in entries {
-        if let Some(rate) = rate_until(entry, code, until) {
-            latest = later(latest, Some(rate));
+    for (place, entry) in entries.iter().enumerate() {
+        if let Obs::Rate {
+            code: of,
+            day,
+            value,
+        } = entry
+        {
+            if (*of == code) & (*day <= until) {
+                let first = (*day, *value);
+                return Some(latest_from(first, &entries[place + 1..], code, until));
+            }
         }
     }
-    latest
+    None
+}
+
+/// The later of a rate, and of the latest rate of a code dated not after a day among the entries
+/// behind it.
+fn latest_from(first: (Day, Fixed), entries: &[Obs], code: u32, until: Day) -> (Day, Fixed)
+    ensures { Some result ≡ later (Some first) (latest_rate entries.now code until) }
+{
+    let mut last = first.0;
+    let mut value_of_last = first.1;
+    for entry in entries {
+        if let Obs::Rate {
+            code: of,
+            day,
+            value,
+        } = entry
+        {
+            if (*of == code) & (*day <= until) & (last <= *day) {
+                last = *day;
+                value_of_last = *value;
+            }
+        }
+    }
+    (last, value_of_last)
 }
 
 /// The day and the value of an entry, where it is a rate of the code dated not after a day.

@@ -2,10 +2,11 @@
 ghost use Rattle.std.specs.Prelude.{◌≡◌, ◌++◌, length, IfOk};
 ghost use Rattle.act_model.specs.Observed.{is_event_of, observed_events};
 ghost use Rattle.std.specs.List.Sorted.{IsSortedBy};
-ghost use Rattle.act_book.specs.Order.{AreSorted, before, is_before};
+ghost use Rattle.std.specs.Ordering.{is_ge};
+ghost use Rattle.act_book.specs.Order.{AreSorted, before, is_before, order_of, rate_on};
 ghost use Rattle.act_book.specs.Rates.{latest_rate};
 
-use crate::order::{order, order_of_rate};
+use crate::order::order;
 use crate::rates::rate_until;
 use act_date::Day;
 use act_model::Obs;
@@ -80,7 +81,7 @@ fn latest_in_order(sorted: &[Obs], code: u32, until: Day) -> Option<(Day, Fixed)
     requires { IsSortedBy before sorted.now }
     ensures { result ≡ latest_rate sorted.now code until }
 {
-    let end = sorted.partition_point(|entry| order_of_rate(code, until, entry).is_ge());
+    let end = sorted.partition_point(|entry| is_until(entry, code, until));
     match sorted[..end].last() {
         Some(entry) => rate_until(entry, code, until),
         None => None,
@@ -127,6 +128,16 @@ fn sorted(entries: Vec<Obs>) -> Result<Vec<Obs>, NoMemory>
     let mut sorted = entries;
     sorted.sort_by(order)?;
     Ok(sorted)
+}
+
+/// Whether an entry is a rate of a code dated not after a day, or stands before those.
+fn is_until(entry: &Obs, code: u32, until: Day) -> bool
+    ensures { result ≡ is_ge (order_of (rate_on code until) entry.now) }
+{
+    match *entry {
+        Obs::Rate { code: of, day, .. } => (of < code) | ((of == code) & (day <= until)),
+        Obs::Event { .. } => false,
+    }
 }
 
 /// Whether an entry stands before the events of a contract.

@@ -4,10 +4,11 @@ ghost use Rattle.act_model.specs.Limits.{most_entries};
 ghost use Rattle.act_model.specs.Observed.{is_entry, observed_events};
 ghost use Rattle.act_book.specs.Entries.{AreEntries};
 ghost use Rattle.act_book.specs.Rates.{latest_rate};
-ghost use Rattle.act_book.specs.Runs.{AreRuns, entries_of};
+ghost use Rattle.act_book.specs.Runs.{AreRecent, AreRuns, entries_of};
 
 use crate::book::CHUNK;
 use crate::rates::{later, latest_among};
+use crate::recent::push_within;
 use crate::run::{Run, push_events};
 use act_date::Day;
 use act_model::{Obs, Observed};
@@ -16,7 +17,8 @@ use std::alloc::Global;
 use std::marker::Model;
 use std::sync::Arc;
 
-/// The first entries of a book.
+/// The first entries of a book. It shares runs with the book, and has a copy of the entries behind
+/// them.
 #[derive(Drop)]
 pub struct Snapshot {
     version: u64,
@@ -40,24 +42,32 @@ impl Model for Snapshot {
 }
 
 impl Snapshot {
-    /// The first `v` entries of a book, whose runs it shares.
+    /// The first `v` entries of a book, whose runs it shares. `recent` has the runs behind the full
+    /// chunks.
     pub(crate) fn first(
         entries: &Vec<Obs>,
         runs: &[Arc<Run, Global>],
+        recent: &[Arc<Run, Global>],
         v: u64,
     ) -> Result<Snapshot, NoMemory>
         requires within { v ≤ length entries.now.items }
         requires most { length entries.now.items ≤ most_entries }
         requires entries { AreEntries entries.now.items }
         requires runs { AreRuns entries.now.items runs.now }
+        requires recent { AreRecent entries.now.items (length runs.now) recent.now }
         ensures { IfOk result (λ seen. seen ≡ take v entries.now.items) }
     {
-        let chunks = (v as usize / CHUNK).min(runs.len());
-        let runs = runs_until(entries, runs, chunks)?;
-        let rest = entries[chunks * CHUNK..v as usize].to_vec(*entries.allocator())?;
+        let v = v as usize;
+        let chunks = (v / CHUNK).min(runs.len());
+        let mut shared = runs_until(entries, runs, chunks)?;
+        let mut end = chunks * CHUNK;
+        if chunks == runs.len() {
+            end += push_within(&mut shared, recent, v - end)?;
+        }
+        let rest = entries[end..v].to_vec(*entries.allocator())?;
         Ok(Snapshot {
-            version: v,
-            runs,
+            version: v as u64,
+            runs: shared,
             rest,
         })
     }

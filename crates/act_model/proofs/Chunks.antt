@@ -1,21 +1,17 @@
 -- The rows of a run in chunks.
-use Rattle.std.proofs.Common.{◌≡◌, ℕ, zero, suc, ◌+◌, ◌-◌, ◌*◌, ◌/◌, ◌<◌, ◌≤◌, min, List, [], ◌∷◌, ◌++◌, length, take, drop, slice_get, ◌⊎◌, inl, inr, refl, sym, ap, ◌∙◌, arith}
+use Rattle.std.proofs.Common.{◌≡◌, ℕ, zero, suc, ◌+◌, ◌-◌, ◌*◌, ◌/◌, ◌<◌, ◌≤◌, min, List, [], ◌∷◌, ◌++◌, length, map, take, drop, slice_get, ◌⊎◌, inl, inr, refl, sym, ap, ap₂, ◌∙◌, arith}
 use Rattle.std.proofs.Math.Seq.{drop-append-add, take-append-add}
-use Rattle.std.proofs.lemmas.List.{append-nil, append_assoc, length-append, length-take-le, take-append-drop, take-append-le}
+use Rattle.std.proofs.lemmas.List.{append-nil, append_assoc, length-append, length-take-le, map-append, take-append-drop, take-append-le}
 use Rattle.std.proofs.lemmas.List.Elements.{All-head, All-tail}
 use Rattle.std.specs.List.{All}
 use Rattle.act_model.proofs.Lists.{get_back, get_front, take_parts}
 use Rattle.act_model.specs.Rows.{AreChunks, next_rows, rows_of}
+use Rattle.act_model.specs.Run.{Cells, cells_of}
 use Rattle.act_model.specs.declared.run.Row.{Row}
 
 -- it has as many rows as a chunk holds
 abbrev pub is_full : List Row → Type 0
 is_full chunk = length chunk ≡ 64
-
--- some element of a list that has one
-pub some_of : {A : Type 0} (xs : List A) (k : ℕ) → k < length xs → A
-some_of [] k within = absurd (omega (arith, within))
-some_of (x ∷ xs) k within = x
 
 -- how many rows full chunks have
 pub length_full : (chunks : List (List Row)) → All is_full chunks → length (rows_of chunks) ≡ 64 * length chunks
@@ -110,3 +106,39 @@ module _ (full : List (List Row)) (last : List Row) (are : AreChunks full last) 
       (sym (take-append-le (n - k * 64) next rest.0 (within_next within)) ∙ ap (take (n - k * 64)) (sym rest.1)
       ∙ ap (λ m. take m (drop (64 * k) rows)) (omega arith))
       ∙ take_parts (64 * k) n rows behind_chunks
+
+-- rows from the begin of a chunk on, at most as many as it holds
+module _ (full : List (List Row)) (last : List Row) (are : AreChunks full last) (n k e : ℕ) (begin : n ≡ 64 * k) (some : zero < e) (few : e ≤ 64) (within : n + e ≤ length (rows_of full ++ last)) where
+  chunk_there : k ≤ length full
+  chunk_there =
+      omega (arith, begin, some, within, are.short, length-append (rows_of full) last, length_full full are.each)
+
+  -- they stand in that chunk
+  pub chunk_within : e ≤ length (next_rows (slice_get full k) last)
+  chunk_within = elim (next_length full last k are.each chunk_there) [
+    | inl chunk ↦ omega (arith, few, chunk.1)
+    | inr rest ↦ omega (arith, begin, within, rest.0, rest.1, length-append (rows_of full) last, length_full full are.each)
+  ]
+
+  -- and behind the rows before it
+  pub take_on : (j : ℕ) → j ≤ e → take (n + j) (rows_of full ++ last) ≡ take n (rows_of full ++ last) ++ take j (next_rows (slice_get full k) last)
+  take_on j fewer =
+      let rows = rows_of full ++ last in
+      let next = next_rows (slice_get full k) last in
+      let rest = drop_chunks full last k are.each chunk_there in
+      sym (take_parts n (n + j) rows (omega arith))
+      ∙ ap (λ back. take n rows ++ back)
+      (ap (λ m. take m (drop n rows)) (omega arith) ∙ ap (λ n. take j (drop n rows)) begin ∙ ap (take j) rest.1 ∙ take-append-le j next rest.0 (omega (arith, fewer, chunk_within)))
+
+-- two lists of rows that are printed alike so far, and on
+pub alike_on : (full full' : List (List Row)) (last last' : List Row) (n k j : ℕ) → take (n + j) (rows_of full ++ last) ≡ take n (rows_of full ++ last) ++ take j (next_rows (slice_get full k) last)
+    → take (n + j) (rows_of full' ++ last') ≡ take n (rows_of full' ++ last') ++ take j (next_rows (slice_get full' k) last')
+    → map cells_of (take j (next_rows (slice_get full k) last)) ≡ map cells_of (take j (next_rows (slice_get full' k) last'))
+    → map cells_of (take n (rows_of full ++ last)) ≡ map cells_of (take n (rows_of full' ++ last'))
+    → map cells_of (take (n + j) (rows_of full ++ last)) ≡ map cells_of (take (n + j) (rows_of full' ++ last'))
+alike_on full full' last last' n k j on on' next before =
+    let rows = rows_of full ++ last in
+    let rows' = rows_of full' ++ last' in
+    ap (map cells_of) on ∙ map-append cells_of (take n rows) (take j (next_rows (slice_get full k) last))
+    ∙ ap₂ (λ (a b : List Cells). a ++ b) before next
+    ∙ sym (ap (map cells_of) on' ∙ map-append cells_of (take n rows') (take j (next_rows (slice_get full' k) last')))

@@ -1,3 +1,4 @@
+pub mod Alike
 pub mod AsksInTurn
 pub mod Chunks
 pub mod Lists

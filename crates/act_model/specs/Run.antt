@@ -1,12 +1,21 @@
 -- What runs and plans hold: lists in place of vectors. ACTUS event sequences.
-use Rattle.std.specs.Prelude.{ℤ, List, Bool, true, false}
+use Rattle.std.specs.Prelude.{◌≡◌, ℕ, ℤ, List, map, Bool, true, false}
 use Rattle.act_date.specs.Fraction.{Fraction}
 use Rattle.act_model.specs.declared.event.Event.{Event}
 use Rattle.act_model.specs.declared.event.EventType.{EventType}
 use Rattle.act_model.specs.declared.event.EventType.TheVariants.{TD, MD}
-use Rattle.act_model.specs.declared.run.Cells.{Cells}
 use Rattle.act_model.specs.declared.run.Close.{Close}
 use Rattle.act_model.specs.declared.run.Row.{Row}
+
+-- what is printed of a row: its day, type, currency and payoff, and of the state the notional, the rate and the interest accrued
+pub record Cells : Type 0 where
+  pub day : ℤ
+  pub kind : EventType
+  pub currency : ℕ
+  pub payoff : ℤ
+  pub notional : ℤ
+  pub rate : ℤ
+  pub interest : ℤ
 
 -- what is printed of a row
 abbrev pub cells_of : Row → Cells
@@ -19,6 +28,10 @@ cells_of row = record {
   rate = row.state.ipnr;
   interest = row.state.ipac;
 }
+
+-- rows of which the same is printed
+abbrev pub ArePrintedAlike : List Row → List Row → Type 0
+ArePrintedAlike ones others = map cells_of ones ≡ map cells_of others
 
 -- the rows of a contract, and why there are no more
 pub record Stream : Type 0 where

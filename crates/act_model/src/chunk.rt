@@ -1,12 +1,12 @@
 //! A chunk of rows.
-ghost use Rattle.std.specs.Prelude.{◌≡◌, ◌⊎◌, [], ◌∷◌, ◌++◌, ◌<◌, ◌≤◌, length, take, true, Some, IfOk, OnErr, OnOk, option_map, slice_get};
-ghost use Rattle.act_model.specs.Chunk.{bases_of, rest_of, row_of};
-ghost use Rattle.act_model.specs.Run.{cells_of};
+ghost use Rattle.std.specs.Prelude.{◌≡◌, ◌⊎◌, [], ◌∷◌, ◌++◌, ◌<◌, ◌≤◌, length, take, true, Some, IfOk, IfSome, OnErr, OnOk, get_or, map, option_map, slice_get};
+ghost use Rattle.act_model.specs.Chunk.{AreSlimsAlike, IsSlimAlike, bases_of, full_numbers, no_numbers, numbers_in, numbers_of, rest_of, row_of};
+ghost use Rattle.act_model.specs.Run.{ArePrintedAlike};
 ghost use Rattle.act_model.specs.declared.chunk.Bases.{Bases as BasesOfRow};
 ghost use Rattle.act_model.specs.declared.chunk.Rest.{Rest as RestOfRow};
 
 use crate::event::EventType;
-use crate::run::{Cells, Row};
+use crate::run::Row;
 use crate::state::State;
 use act_date::Day;
 use act_num::{Fixed, NoMemory};
@@ -65,79 +65,131 @@ impl Bases {
     }
 }
 
-/// A row without its rest and its bases, and the places of these.
+/// The numbers of a row that are printed.
 #[derive(Clone, Copy)]
-struct Slim {
-    day: Day,
-    currency: u32,
-    sd: Option<Day>,
-    kind: EventType,
-    rest: u32,
-    bases: u32,
+struct Numbers {
     payoff: Fixed,
     nt: Fixed,
     ipnr: Fixed,
     ipac: Fixed,
 }
 
-// A row takes 96 bytes.
-const _: () = prove!(size_of::<Slim>() <= 96);
+impl Numbers {
+    /// Those of a row.
+    fn of(row: &Row) -> Numbers
+        ensures { result ≡ numbers_of row.now }
+    {
+        Numbers {
+            payoff: row.payoff,
+            nt: row.state.nt,
+            ipnr: row.state.ipnr,
+            ipac: row.state.ipac,
+        }
+    }
+}
+
+/// The numbers of a row that are printed, where each fits 64 bits, in units of 10^-9.
+#[derive(Clone, Copy, PartialEq, Eq)]
+struct Short {
+    payoff: i64,
+    nt: i64,
+    ipnr: i64,
+    ipac: i64,
+}
+
+impl Short {
+    /// Those of longer numbers that are kept elsewhere.
+    const NONE: Short = Short {
+        payoff: 0,
+        nt: 0,
+        ipnr: 0,
+        ipac: 0,
+    };
+
+    /// These numbers, where each fits.
+    fn of(numbers: &Numbers) -> Option<Short>
+        ensures { IfSome result (λ short. numbers_in short ≡ numbers.now) }
+    {
+        Some(Short {
+            payoff: shortened(numbers.payoff)?,
+            nt: shortened(numbers.nt)?,
+            ipnr: shortened(numbers.ipnr)?,
+            ipac: shortened(numbers.ipac)?,
+        })
+    }
+
+    /// The numbers themselves.
+    #[inline(always)]
+    fn numbers(&self) -> Numbers
+        ensures { result ≡ numbers_in self.now }
+    {
+        Numbers {
+            payoff: lengthened(self.payoff),
+            nt: lengthened(self.nt),
+            ipnr: lengthened(self.ipnr),
+            ipac: lengthened(self.ipac),
+        }
+    }
+}
+
+/// A row without its rest and its bases, and the places of these. Numbers that don't fit 64 bits have a place too, counted
+/// from 1; it is 0 where all fit.
+#[derive(Clone, Copy)]
+struct Slim {
+    day: Day,
+    currency: u32,
+    /// The day of the state, where it has one.
+    sd: Day,
+    has_sd: bool,
+    kind: EventType,
+    rest: u32,
+    bases: u32,
+    long: u32,
+    short: Short,
+}
+
+// A row takes 64 bytes.
+const _: () = prove!(size_of::<Slim>() <= 64);
 
 impl Slim {
-    /// That of a row whose rest and whose bases stand at these places.
-    fn of(row: &Row, rest: u32, bases: u32) -> Slim
-        ensures row { row_of (rest_of row.now) (bases_of row.now) result ≡ row.now }
+    /// That of a row whose rest, bases and numbers stand at these places.
+    fn of(row: &Row, rest: u32, bases: u32, placed: Placed) -> Slim
+        ensures row { row_of (rest_of row.now) (bases_of row.now) (numbers_of row.now) result ≡ row.now }
         ensures rest { result.rest ≡ rest }
         ensures bases { result.bases ≡ bases }
+        ensures long { result.long ≡ placed.long }
+        ensures short { result.short ≡ placed.short }
     {
-        let state = &row.state;
         Slim {
             day: row.day,
             currency: row.currency,
-            sd: state.sd,
+            sd: row.state.sd.unwrap_or(row.day),
+            has_sd: row.state.sd.is_some(),
             kind: row.kind,
             rest,
             bases,
-            payoff: row.payoff,
-            nt: state.nt,
-            ipnr: state.ipnr,
-            ipac: state.ipac,
+            long: placed.long,
+            short: placed.short,
         }
     }
 
-    /// What is printed of the row, which the rest and the bases have no part in.
+    /// The row, with its rest, its bases and its numbers.
     #[inline(always)]
-    fn cells(&self) -> Cells
-        ensures { (rest : RestOfRow) → (bases : BasesOfRow) → result ≡ cells_of (row_of rest bases self.now) }
-    {
-        Cells {
-            day: self.day,
-            kind: self.kind,
-            currency: self.currency,
-            payoff: self.payoff,
-            notional: self.nt,
-            rate: self.ipnr,
-            interest: self.ipac,
-        }
-    }
-
-    /// The row, with its rest and its bases.
-    #[inline(always)]
-    fn with(&self, rest: &Rest, bases: &Bases) -> Row
-        ensures { result ≡ row_of rest.now bases.now self.now }
+    fn with(&self, rest: &Rest, bases: &Bases, numbers: &Numbers) -> Row
+        ensures { result ≡ row_of rest.now bases.now numbers.now self.now }
     {
         Row {
             day: self.day,
             kind: self.kind,
             currency: self.currency,
-            payoff: self.payoff,
+            payoff: numbers.payoff,
             state: State {
-                sd: self.sd,
+                sd: self.has_sd.then_some(self.sd),
                 md: rest.md,
                 xd: rest.xd,
-                nt: self.nt,
-                ipnr: self.ipnr,
-                ipac: self.ipac,
+                nt: numbers.nt,
+                ipnr: numbers.ipnr,
+                ipac: numbers.ipac,
                 ipnr2: rest.ipnr2,
                 ipac2: rest.ipac2,
                 feac: bases.feac,
@@ -157,6 +209,8 @@ pub(crate) struct Chunk {
     rows: Vec<Slim>,
     rests: Vec<Rest>,
     bases: Vec<Bases>,
+    /// The numbers of rows of which one doesn't fit 64 bits.
+    long: Vec<Numbers>,
 }
 
 impl Model for Chunk {
@@ -166,9 +220,9 @@ impl Model for Chunk {
 
     ghost Value = { List Row };
 
-    ghost view = { λ c. map (full_row c.rests.items c.bases.items) c.rows.items };
+    ghost view = { λ c. map (full_row c.rests.items c.bases.items c.long.items) c.rows.items };
 
-    ghost invariant = { λ c. HaveParts c.rests.items c.bases.items c.rows.items };
+    ghost invariant = { λ c. HaveParts c.rests.items c.bases.items c.long.items c.rows.items };
 }
 
 impl Chunk {
@@ -180,6 +234,7 @@ impl Chunk {
             rows: Vec::new(alloc),
             rests: Vec::new(alloc),
             bases: Vec::new(alloc),
+            long: Vec::new(alloc),
         }
     }
 
@@ -191,6 +246,7 @@ impl Chunk {
             rows: Vec::with_capacity(alloc, count)?,
             rests: Vec::new(alloc),
             bases: Vec::new(alloc),
+            long: Vec::new(alloc),
         })
     }
 
@@ -202,7 +258,13 @@ impl Chunk {
         let rows = self.rows[..count].to_vec(alloc)?;
         let rests = self.rests.to_vec(alloc)?;
         let bases = self.bases.to_vec(alloc)?;
-        Ok(Chunk { rows, rests, bases })
+        let long = self.long.to_vec(alloc)?;
+        Ok(Chunk {
+            rows,
+            rests,
+            bases,
+            long,
+        })
     }
 
     /// Adds a row behind the others. Where memory runs out, the rows are as before.
@@ -212,8 +274,11 @@ impl Chunk {
     {
         let rest = push_rest(&mut self.rests, &Rest::of(row))?;
         let bases = push_bases(&mut self.bases, &Bases::of(row))?;
-        let slim = Slim::of(row, rest, bases);
-        Ok(self.rows.extend_from_slice(slice::from_ref(&slim))?)
+        let placed = place_numbers(&mut self.long, &Numbers::of(row))?;
+        let slim = Slim::of(row, rest, bases, placed);
+        self.rows.reserve(1)?;
+        self.rows.push_reserved(slim);
+        Ok(())
     }
 
     /// How many rows there are.
@@ -233,16 +298,100 @@ impl Chunk {
         slim.with(
             &self.rests[slim.rest as usize],
             &self.bases[slim.bases as usize],
+            &numbers_at(&self.long, slim),
         )
     }
 
-    /// What is printed of the row at a place.
-    #[inline(always)]
-    pub(crate) fn cells(&self, place: usize) -> Cells
-        requires { place < length self.now }
-        ensures { option_map cells_of (slice_get self.now place) ≡ Some result }
+    /// How many rows at the beginning of both, up to so many, are found to be printed alike.
+    pub(crate) fn count_alike(&self, other: &Chunk, most: usize) -> usize
+        requires here { most ≤ length self.now }
+        requires there { most ≤ length other.now }
+        ensures most { result ≤ most }
+        ensures alike { ArePrintedAlike (take result self.now) (take result other.now) }
     {
-        self.rows[place].cells()
+        count_alike(&self.rows[..most], &other.rows[..most])
+    }
+}
+
+/// How many rows at the beginning of two lists of as many are found to be printed alike.
+fn count_alike(one: &[Slim], other: &[Slim]) -> usize
+    requires { length one.now ≡ length other.now }
+    ensures most { result ≤ length one.now }
+    ensures alike { AreSlimsAlike (take result one.now) (take result other.now) }
+{
+    for place in 0..one.len() {
+        if !are_alike(&one[place], &other[place]) {
+            return place;
+        }
+    }
+    one.len()
+}
+
+/// Whether two rows whose numbers fit 64 bits are printed alike.
+#[inline(always)]
+fn are_alike(one: &Slim, other: &Slim) -> bool
+    ensures { result ≡ true → IsSlimAlike one.now other.now }
+{
+    (one.long == 0)
+        & (other.long == 0)
+        & (one.short == other.short)
+        & (one.day == other.day)
+        & (one.kind == other.kind)
+        & (one.currency == other.currency)
+}
+
+/// Numbers that fit 64 bits, or else the place of the longer ones, counted from 1.
+#[derive(Clone, Copy)]
+struct Placed {
+    long: u32,
+    short: Short,
+}
+
+/// Puts numbers where they belong: short ones in a row, and longer ones in a list. Where memory runs out, the list is as
+/// before.
+fn place_numbers(list: &mut Vec<Numbers>, numbers: &Numbers) -> Result<Placed, NoMemory>
+    ensures there { IfOk result (λ placed. get_or (numbers_in placed.short ∷ list.new.items) placed.long no_numbers ≡ numbers.now) }
+    ensures within { IfOk result (λ placed. placed.long ≤ length list.new.items) }
+    ensures others { (list.new.items ≡ list.old.items) ⊎ (list.new.items ≡ list.old.items ++ numbers.now ∷ []) }
+{
+    if let Some(short) = Short::of(numbers) {
+        return Ok(Placed { long: 0, short });
+    }
+    let long = numbered(list.len() + 1)?;
+    list.extend_from_slice(slice::from_ref(numbers))?;
+    Ok(Placed {
+        long,
+        short: Short::NONE,
+    })
+}
+
+/// The numbers of a row, which stand in it or in a list.
+#[inline(always)]
+fn numbers_at(list: &[Numbers], slim: &Slim) -> Numbers
+    requires { slim.now.long ≤ length list.now }
+    ensures { result ≡ full_numbers list.now slim.now }
+{
+    match slim.long.checked_sub(1) {
+        Some(place) => list[place as usize],
+        None => slim.short.numbers(),
+    }
+}
+
+/// A number in 64 bits, where it fits.
+fn shortened(number: Fixed) -> Option<i64>
+    ensures { IfSome result (λ short. short ≡ number) }
+{
+    i64::try_from(number.units()).ok()
+}
+
+/// The number of so many units of 10^-9.
+#[inline(always)]
+fn lengthened(units: i64) -> Fixed
+    ensures { result ≡ units }
+{
+    match Fixed::from_units(i128::from(units)) {
+        Some(number) => number,
+        None => unreachable!(),
     }
 }
 

@@ -1,11 +1,11 @@
 //! The rows of a run.
-ghost use Rattle.std.specs.Prelude.{◌≡◌, ◌≤◌, ◌<◌, ◌++◌, [], ◌∷◌, Some, length, map, option_map, take, slice_get, IfErr, IfOk, OnOk};
+ghost use Rattle.std.specs.Prelude.{◌≡◌, ◌≤◌, ◌<◌, ◌++◌, [], ◌∷◌, Some, length, map, option_map, take, slice_get, min, ◌-◌, ◌/◌, ◌*◌, ◌+◌, IfErr, IfOk, OnOk};
 ghost use Rattle.act_model.specs.Rows.{AreChunks, next_rows, rows_of};
 ghost use Rattle.std.specs.Arc.{arc_value};
-ghost use Rattle.act_model.specs.Run.{cells_of};
+ghost use Rattle.act_model.specs.Run.{ArePrintedAlike};
 
 use crate::chunk::Chunk;
-use crate::run::{Cells, Row};
+use crate::run::Row;
 use act_num::NoMemory;
 use std::alloc::Global;
 use std::marker::Model;
@@ -101,14 +101,41 @@ impl Rows {
         behind(&self.full, &self.last, chunks).row(place - chunks * CHUNK)
     }
 
-    /// What is printed of the row at a place, from 0.
-    #[inline(always)]
-    pub fn cells(&self, place: usize) -> Cells
-        requires { place < length self.now }
-        ensures { option_map cells_of (slice_get self.now place) ≡ Some result }
+    /// How many rows at the beginning of these and of others, up to so many, are found to be printed alike. Numbers that don't
+    /// fit 64 bits aren't compared: the rows before them are all that are found.
+    pub fn count_alike(&self, other: &Rows, most: usize) -> usize
+        ensures most { result ≤ most }
+        ensures here { result ≤ length self.now }
+        ensures there { result ≤ length other.now }
+        ensures alike { ArePrintedAlike (take result self.now) (take result other.now) }
     {
-        let chunks = (place / CHUNK).min(self.full.len());
-        behind(&self.full, &self.last, chunks).cells(place - chunks * CHUNK)
+        let limit = most.min(self.count()).min(other.count());
+        let mut alike = 0;
+        while alike < limit {
+            let found = self.alike_from(other, alike, limit);
+            alike += found;
+            if found < CHUNK {
+                break;
+            }
+        }
+        alike
+    }
+
+    /// How many rows of the chunk that begins at a place, up to those before `end`, are found to be printed alike.
+    #[inline(always)]
+    fn alike_from(&self, other: &Rows, begin: usize, end: usize) -> usize
+        requires whole { begin ≡ 64 * (begin / 64) }
+        requires some { begin < end }
+        requires here { end ≤ length self.now }
+        requires there { end ≤ length other.now }
+        ensures few { result ≤ min 64 (end - begin) }
+        ensures alike { ArePrintedAlike (take begin self.now) (take begin other.now)
+            → ArePrintedAlike (take (begin + result) self.now) (take (begin + result) other.now) }
+    {
+        let chunks = begin / CHUNK;
+        let here = behind(&self.full, &self.last, chunks);
+        let there = behind(&other.full, &other.last, chunks);
+        here.count_alike(there, CHUNK.min(end - begin))
     }
 }
 

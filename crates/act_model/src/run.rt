@@ -27,25 +27,6 @@ pub struct Row {
     pub state: State,
 }
 
-/// What is printed of a row.
-#[derive(Clone, Copy, PartialEq, Eq)]
-pub struct Cells {
-    /// The event's day.
-    pub day: Day,
-    /// The event's type.
-    pub kind: EventType,
-    /// The currency of the payoff.
-    pub currency: u32,
-    /// The payoff, in units of 10^-9.
-    pub payoff: Fixed,
-    /// The notional after the event, in units of 10^-9.
-    pub notional: Fixed,
-    /// The rate after the event, in units of 10^-9.
-    pub rate: Fixed,
-    /// The interest accrued after the event, in units of 10^-9.
-    pub interest: Fixed,
-}
-
 // A run of a thousand rows takes at most a quarter of a megabyte.
 const _: () = prove!(size_of::<Row>() <= 256);
 

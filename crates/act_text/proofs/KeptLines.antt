@@ -1,18 +1,14 @@
 -- Lines one behind the other, and where they end.
-use Rattle.std.proofs.Common.{◌≡◌, ℕ, zero, suc, ◌+◌, ◌-◌, ◌<◌, ◌≤◌, List, [], ◌∷◌, ◌++◌, length, map, take, drop, get_or, Some, option_map, slice_index_or, unwrap_or, refl, sym, ap, ap₂, ◌∙◌, append_assoc, arith, Bool, true, false, not, ◌&&◌, nat_eq, int_eq, Option, None}
+use Rattle.std.proofs.Common.{◌≡◌, ℕ, zero, suc, ◌+◌, ◌-◌, ◌<◌, ◌≤◌, List, [], ◌∷◌, ◌++◌, length, map, take, drop, get_or, Some, option_map, slice_index_or, unwrap_or, refl, sym, ap, ap₂, ◌∙◌, append_assoc, arith}
 use Rattle.std.proofs.Math.Seq.{drop-append_seam, take-append_seam, take-suc}
-use Rattle.std.proofs.lemmas.List.{append-nil, length-append, length-map, length-take-le, map-append, take-append-drop, take-map, take_more}
+use Rattle.std.proofs.lemmas.List.{append-nil, length-append, length-map, length-take-le, take-append-drop, take-map, take_more}
 use Rattle.std.proofs.lemmas.List.Folds.{flat_map-map}
 use Rattle.std.proofs.lemmas.Grind.{flat_map-append}
 use Rattle.std.proofs.lemmas.Option.{get_or_from_slice_get, slice_get-get_or, slice_get-map, slice_get_within}
+use Rattle.std.proofs.lemmas.Simd.{map-map}
 use Rattle.std.specs.List.{flat_map, slice_get}
-use Rattle.std.proofs.lemmas.Bool.{eqb-true}
-use Rattle.std.proofs.lemmas.Bool.Decides.{Decides-int_eq}
-use denote.Enum.Bare.{same_true, sameb}
 use Rattle.act_model.specs.Names.{NameLists}
-use Rattle.act_model.specs.Run.{cells_of}
-use Rattle.act_model.specs.contracts.event.EventType.{the_type}
-use Rattle.act_model.specs.declared.run.Cells.{Cells}
+use Rattle.act_model.specs.Run.{Cells, cells_of}
 use Rattle.act_model.specs.declared.run.Row.{Row}
 use Rattle.act_text.specs.Kept.{AreLines, ArePrintedAlike, ends_of, start_at}
 use Rattle.act_text.specs.Lines.{cells_text, row_text}
@@ -131,61 +127,13 @@ pub one_more : (rows : List Row) (k : ℕ) (row : Row) → slice_get rows k ≡ 
 one_more rows k row there =
     take_more rows k row (slice_get_within rows k row there) ∙ ap (λ row. take k rows ++ row ∷ []) (get_or_from_slice_get rows k row row there)
 
--- both are true
-both : (a b : Bool) → (a && b) ≡ true → (a ≡ true) × (b ≡ true)
-both true b e = (refl, e)
-both false b e = cc
-
--- they don't differ
-pub not_other : (b : Bool) → not b ≡ false → b ≡ true
-not_other true e = refl
-not_other false e = cc
-
 -- the line of cells
-abbrev pub line : NameLists → Cells → List ℕ
+abbrev line : NameLists → Cells → List ℕ
 line names cells = cells_text names cells.day cells.kind cells.currency cells.payoff cells.notional cells.rate cells.interest
 
--- equal cells have one line
-pub same_line : (names : NameLists) (a b : Cells)
-    → (int_eq a.day b.day && (sameb the_type a.kind b.kind && (nat_eq a.currency b.currency && (int_eq a.payoff b.payoff && (int_eq a.notional b.notional && (int_eq a.rate b.rate && int_eq a.interest b.interest)))))) ≡ true
-    → line names a ≡ line names b
-same_line names a b e =
-    let after_day = both _ _ e in
-    let after_kind = both _ _ after_day.1 in
-    let after_currency = both _ _ after_kind.1 in
-    let after_payoff = both _ _ after_currency.1 in
-    let after_notional = both _ _ after_payoff.1 in
-    let after_rate = both _ _ after_notional.1 in
-    let day : a.day ≡ b.day = (Decides-int_eq _ _).0 after_day.0 in
-    let kind : a.kind ≡ b.kind = same_true the_type tt a.kind b.kind after_kind.0 in
-    let currency : a.currency ≡ b.currency = eqb-true a.currency b.currency after_currency.0 in
-    let payoff : a.payoff ≡ b.payoff = (Decides-int_eq _ _).0 after_payoff.0 in
-    let notional : a.notional ≡ b.notional = (Decides-int_eq _ _).0 after_notional.0 in
-    let rate : a.rate ≡ b.rate = (Decides-int_eq _ _).0 after_rate.0 in
-    let interest : a.interest ≡ b.interest = (Decides-int_eq _ _).0 after_rate.1 in
-    simp (day, kind, currency, payoff, notional, rate, interest) refl
-
-alike_row : (one other : List Row) (k : ℕ) (a b : Row) → slice_get one k ≡ Some a → slice_get other k ≡ Some b → ((names : NameLists) → row_text names a ≡ row_text names b)
-    → ArePrintedAlike (take k one) (take k other) → ArePrintedAlike (take (k + 1) one) (take (k + 1) other)
-alike_row one other k a b here there same alike = λ names.
-    ap (map (row_text names)) (one_more one k a here)
-    ∙ map-append (row_text names) (take k one) (a ∷ [])
-    ∙ ap₂ (λ lines line. lines ++ line ∷ []) (alike names) (same names)
-    ∙ sym (map-append (row_text names) (take k other) (b ∷ []))
-    ∙ ap (map (row_text names)) (sym (one_more other k b there))
-
--- the row of which that is printed
-row_at : (o : Option Row) (cells : Cells) → option_map cells_of o ≡ Some cells → (row : Row) × (o ≡ Some row) × (cells_of row ≡ cells)
-row_at None cells e = cc
-row_at (Some row) cells e = (row, refl, ap (λ o. unwrap_or o cells) e)
-
--- rows one more, of which the same is printed
-pub alike_more : (one other : List Row) (k : ℕ) (a b : Cells) → option_map cells_of (slice_get one k) ≡ Some a → option_map cells_of (slice_get other k) ≡ Some b
-    → ((names : NameLists) → line names a ≡ line names b) → ArePrintedAlike (take k one) (take k other) → ArePrintedAlike (take (k + 1) one) (take (k + 1) other)
-alike_more one other k a b here there same alike =
-    let x = row_at (slice_get one k) a here in
-    let y = row_at (slice_get other k) b there in
-    alike_row one other k x.0 y.0 x.1 y.1 (λ names. ap (line names) x.2 ∙ (same names ∙ ap (line names) (sym y.2))) alike
+-- rows of which the same is printed
+pub printed_alike : (one other : List Row) → map cells_of one ≡ map cells_of other → ArePrintedAlike one other
+printed_alike one other same = λ names. sym (map-map (line names) cells_of one) ∙ ap (map (line names)) same ∙ map-map (line names) cells_of other
 
 -- as many lines as rows
 pub length_lines : (names : NameLists) (rows : List Row) (text ends : List ℕ) → AreLines names rows text ends → length ends ≡ length rows

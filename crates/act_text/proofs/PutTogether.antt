@@ -10,12 +10,12 @@ module _ {T E : Type 0} (r : Result T E) (new old : List ℕ) where
   ended line text ok e = on_ok_weaker r (λ h. h ∙ (append_assoc old line (codes "\n") ∙ ap (λ t. old ++ t) e)) ok
 
 -- a day, a type, a currency and four numbers
-pub row_put : (nothing b0 b1 b2 b3 b4 b5 b6 day word type name currency payoff nt ipnr ipac : List ℕ)
-    → nothing ≡ [] → b0 ≡ nothing ++ day → b1 ≡ b0 ++ codes " " ++ word → word ≡ type → b2 ≡ b1 ++ codes " " ++ name → name ≡ currency → b3 ≡ b2 ++ codes " " ++ payoff
+pub row_put : (nothing b0 b1 b2 b3 b4 b5 b6 day type name currency payoff nt ipnr ipac : List ℕ)
+    → nothing ≡ [] → b0 ≡ nothing ++ day → b1 ≡ b0 ++ codes " " ++ type → b2 ≡ b1 ++ codes " " ++ name → name ≡ currency → b3 ≡ b2 ++ codes " " ++ payoff
     → b4 ≡ b3 ++ codes " " ++ nt → b5 ≡ b4 ++ codes " " ++ ipnr → b6 ≡ b5 ++ codes " " ++ ipac
     → b6 ++ codes "\n" ≡ line_of day (type ∷ currency ∷ payoff ∷ nt ∷ ipnr ∷ ipac ∷ [])
-row_put nothing b0 b1 b2 b3 b4 b5 b6 day word type name currency payoff nt ipnr ipac e e0 e1 w e2 n e3 e4 e5 e6 =
-    simp (e6, e5, e4, e3, e2, e1, e0, e, w, n, append_assoc) refl
+row_put nothing b0 b1 b2 b3 b4 b5 b6 day type name currency payoff nt ipnr ipac e e0 e1 e2 n e3 e4 e5 e6 =
+    simp (e6, e5, e4, e3, e2, e1, e0, e, n, append_assoc) refl
 
 -- a word, a name and a day
 pub missing_put : (nothing b0 b1 b2 b3 first name day : List ℕ) → nothing ≡ [] → b0 ≡ nothing ++ first → b1 ≡ b0 ++ codes " " ++ name → b2 ≡ b1 ++ codes " " → b3 ≡ b2 ++ day

@@ -88,26 +88,10 @@ impl<'a> RowLines<'a> {
         ensures alike { ArePrintedAlike (take result self.now.rows) (take result rows.now) }
     {
         match &self.run {
-            Some(run) => count_alike(&run.rows, rows, self.ends.len()),
+            Some(run) => run.rows.count_alike(rows, self.ends.len()),
             None => 0,
         }
     }
-}
-
-/// How many rows at the beginning of two lists are printed alike, up to so many.
-fn count_alike(one: &Rows, other: &Rows, most: usize) -> usize
-    requires { most ≤ length one.now }
-    ensures most { result ≤ most }
-    ensures there { result ≤ length other.now }
-    ensures alike { ArePrintedAlike (take result one.now) (take result other.now) }
-{
-    let most = most.min(other.count());
-    for place in 0..most {
-        if one.cells(place) != other.cells(place) {
-            return place;
-        }
-    }
-    most
 }
 
 /// Where the line at a place begins, or would begin behind the last.

@@ -26,7 +26,7 @@ pub fn put_row(names: &Names, row: &Row, line: &mut TextLine)
 {
     line.clear();
     line.push_day(row.day);
-    line.push_word(type_word(row.kind));
+    push_type(line, row.kind);
     push_name(line, names.currency(row.currency));
     line.push_number(row.payoff);
     line.push_number(row.state.nt);
@@ -97,6 +97,35 @@ fn push_name(line: &mut TextLine, name: Option<&str>)
     match name {
         Some(name) => line.push_name(name),
         None => line.push_word(b""),
+    }
+}
+
+/// Adds a space and the word of a type of events, each by its own number of bytes.
+fn push_type(line: &mut TextLine, kind: EventType)
+    requires room { length line.old + 5 ≤ MOST_LINE }
+    ensures text { line.new ≡ line.old ++ codes " " ++ type_text kind }
+    ensures len { length line.new ≤ length line.old + 5 }
+{
+    match kind {
+        EventType::IED => line.push_bytes(b" IED"),
+        EventType::PR => line.push_bytes(b" PR"),
+        EventType::PP => line.push_bytes(b" PP"),
+        EventType::PY => line.push_bytes(b" PY"),
+        EventType::FP => line.push_bytes(b" FP"),
+        EventType::PRD => line.push_bytes(b" PRD"),
+        EventType::TD => line.push_bytes(b" TD"),
+        EventType::IP => line.push_bytes(b" IP"),
+        EventType::IPCI => line.push_bytes(b" IPCI"),
+        EventType::RRF => line.push_bytes(b" RRF"),
+        EventType::RR => line.push_bytes(b" RR"),
+        EventType::PRF => line.push_bytes(b" PRF"),
+        EventType::IPCB => line.push_bytes(b" IPCB"),
+        EventType::SC => line.push_bytes(b" SC"),
+        EventType::DV => line.push_bytes(b" DV"),
+        EventType::MD => line.push_bytes(b" MD"),
+        EventType::CE => line.push_bytes(b" CE"),
+        EventType::XD => line.push_bytes(b" XD"),
+        EventType::STD => line.push_bytes(b" STD"),
     }
 }
 

@@ -25,7 +25,7 @@ const TICKET: usize = 0;
 const SERVING: usize = 1;
 
 /// How often a thread that waits looks at the ticket that is served before it sleeps in between.
-const LOOKS: u32 = 64;
+const LOOKS: u32 = 1024;
 
 /// A value that is passed from thread to thread in turns. Contracts see which turn it is, and how many
 /// passes it has.

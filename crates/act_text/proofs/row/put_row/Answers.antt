@@ -9,6 +9,6 @@ pub returns : goal.returns
 unfolding cells_text
 returns c =
     c.push_bytes.ensures
-    ∙ row_put _ _ _ _ _ _ _ _ (date_text c.args.row.now.day) _ _ _ _ _ _ _ _ c.clear.ensures c.push_day.ensures.text c.push_word.ensures.text c.type_word.ensures.text c.push_name.ensures.text
+    ∙ row_put _ _ _ _ _ _ _ _ (date_text c.args.row.now.day) _ _ _ _ _ _ _ c.clear.ensures c.push_day.ensures.text c.push_type.ensures.text c.push_name.ensures.text
     (ap (λ (name : Option (List ℕ)). unwrap_or name []) c.currency.ensures.value)
     c.push_number.ensures.text c.push_number-2.ensures.text c.push_number-3.ensures.text c.push_number-4.ensures.text

@@ -1,0 +1,26 @@
+use Rattle.std.proofs.Common.{◌≡◌, ◌≤◌, List, map, take, sym, ap, ◌∙◌, arith}
+use Rattle.std.proofs.lemmas.List.{length-take, take-map, take-take}
+use Rattle.act_model.specs.Chunk.{full_row}
+use Rattle.act_model.specs.Run.{cells_of}
+use Rattle.act_model.specs.declared.chunk.Slim.{Slim}
+use Rattle.act_model.specs.declared.run.Row.{Row}
+use Rattle.act_model.proofs.chunk.Chunk.count_alike.Goals as goal
+
+pub returns-clause-alike : goal.returns-clause-alike
+returns-clause-alike c =
+    let here = c.self.inside in
+    let there = c.other.inside in
+    let k = c.count_alike.result in
+    let most = c.args.most in
+    let within : k ≤ most = omega (arith, c.count_alike.ensures.most, length-take most c.deref.result.now) in
+    let slims : take k (take most c.deref.result.now) ≡ take k here.rows.items = take-take k most c.deref.result.now within ∙ ap (take k) c.deref.ensures.value in
+    let slims' : take k (take most c.deref-2.result.now) ≡ take k there.rows.items = take-take k most c.deref-2.result.now within ∙ ap (take k) c.deref-2.ensures.value in
+    let row = full_row here.rests.items here.bases.items here.long.items in
+    let row' = full_row there.rests.items there.bases.items there.long.items in
+    ap (λ (rows : List Row). map cells_of (take k rows)) (sym c.self.view_is)
+    ∙ ap (map cells_of) (take-map row k here.rows.items)
+    ∙ ap (λ (slims : List Slim). map cells_of (map row slims)) (sym slims)
+    ∙ c.count_alike.ensures.alike here.rests.items there.rests.items here.bases.items there.bases.items here.long.items there.long.items
+    ∙ ap (λ (slims : List Slim). map cells_of (map row' slims)) slims'
+    ∙ ap (map cells_of) (sym (take-map row' k there.rows.items))
+    ∙ ap (λ (rows : List Row). map cells_of (take k rows)) c.other.view_is

@@ -1,0 +1,6 @@
+use Rattle.act_model.proofs.Alike.{cells_alike}
+use Rattle.act_model.proofs.chunk.are_alike.Goals as goal
+
+pub returns : goal.returns
+returns c =
+    cells_alike c.args.one.now c.args.other.now c.eq.result c.eq-2.result c.eq-3.result c.eq.ensures c.eq-2.ensures c.eq-3.ensures

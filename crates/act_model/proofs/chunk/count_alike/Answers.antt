@@ -1,0 +1,13 @@
+use Rattle.std.proofs.Common.{take, subst, arith}
+use Rattle.act_model.specs.Chunk.{AreSlimsAlike}
+use Rattle.act_model.proofs.Alike.{alike_more}
+use Rattle.act_model.proofs.chunk.count_alike.Goals as goal
+
+pub loop-place-preserved : goal.loop-place-preserved
+loop-place-preserved c =
+    alike_more c.args.one.now c.args.other.now c.loop-place.place c.index-one-place.result c.index-other-place.result (omega arith) (omega arith) c.index-one-place.is c.index-other-place.is
+    (c.are_alike.ensures c.if-not-are_alike.false) c.loop-place.invariant
+
+pub returns-clause-alike : goal.returns-clause-alike
+returns-clause-alike c =
+    subst (λ n. AreSlimsAlike (take n c.args.one.now) (take n c.args.other.now)) (omega (arith, c.loop-place-test.false, c.loop-place.auto.place-end)) c.loop-place.invariant
