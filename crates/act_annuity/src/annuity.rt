@@ -5,6 +5,7 @@ ghost use Rattle.act_annuity.specs.Passes.{changed, first_and_divisor, passed, p
 ghost use Rattle.act_annuity.specs.Payment.{annuity_payment, products_at};
 ghost use Rattle.act_annuity.specs.declared.annuity.Change.TheVariants.{Raise};
 
+use crate::factors::Factors;
 use act_date::Frac;
 use act_num::{Factor, Fixed, rnd};
 
@@ -84,10 +85,11 @@ fn by_two_passes(r: Fixed, periods: &[Frac]) -> Option<(Option<Factor>, i128)>
 fn pass(r: Fixed, periods: &[Frac], start: i128, change: Change) -> Option<(Option<Factor>, i128)>
     ensures { result ≡ passed change start r periods.now }
 {
+    let mut factors = Factors::at(r);
     let mut product = None;
     let mut number = start;
     for period in periods.iter().rev() {
-        let earlier = product_from(r, *period, product)?;
+        let earlier = product_from(&mut factors, *period, product)?;
         number = changed(number, earlier.units(), change)?;
         product = Some(earlier);
     }
@@ -95,10 +97,11 @@ fn pass(r: Fixed, periods: &[Frac], start: i128, change: Change) -> Option<(Opti
 }
 
 /// The product of the factors from a period on, by the one of the later periods, where there are some.
-fn product_from(r: Fixed, period: Frac, later: Option<Factor>) -> Option<Factor>
-    ensures { result ≡ product_from r period later }
+fn product_from(factors: &mut Factors, period: Frac, later: Option<Factor>) -> Option<Factor>
+    ensures value { result ≡ product_from factors.old period later }
+    ensures same { factors.new ≡ factors.old }
 {
-    let factor = Factor::one_plus(r, period.num, period.den)?;
+    let factor = factors.of(period)?;
     match later {
         Some(later) => later.times(factor),
         None => Some(factor),

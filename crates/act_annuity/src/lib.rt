@@ -2,5 +2,6 @@
 #![tactic(auto)]
 
 mod annuity;
+mod factors;
 
 pub use annuity::payment;

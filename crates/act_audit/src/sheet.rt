@@ -6,7 +6,8 @@ use act_io::{PutFault, Sink};
 use std::alloc::Global;
 use std::marker::Model;
 
-/// A sink that never fails. What is written is kept only from where the text at hand differs: the text has what stands before.
+/// A sink that never fails. What is written is kept only from the first piece on that the text at hand hasn't: the text has
+/// what stands before.
 #[derive(Drop)]
 pub(crate) struct Sheet<'a> {
     text: &'a [u8],
@@ -63,5 +64,13 @@ impl<'a> Sink for Sheet<'a> {
             return Err(PutFault::NoMemory);
         }
         Ok(piece.len())
+    }
+
+    fn put_lines(&mut self, text: &[u8]) -> Result<usize, PutFault>
+        ensures took { Puts text.now (Some self.old) (Some self.new) result }
+        ensures empty { length text.now ≡ 0 → result ≡ Ok 0 }
+        ensures faults { 0 ≡ put_faults result 0 }
+    {
+        self.put(text)
     }
 }

@@ -16,7 +16,7 @@ use crate::status::Status;
 use crate::words::AuditWords;
 use act_io::{Files, Sink};
 use act_num::Steps;
-use act_top::{Halt, Stop, write_line};
+use act_top::{Halt, Stop, write_text};
 use std::alloc::Global;
 use std::sync::ledger::Ledger;
 
@@ -97,7 +97,7 @@ pub fn audit_top<F: Files, K: Sink, L: Ledger>(
         (result ≡ NoMemory) ⊎ EndsWhole wanted result (K.written out.old) (K.written out.new)) }
 {
     let Some(words) = AuditWords::of(words) else {
-        return status_of(write_line(out, USAGE), Status::Words);
+        return status_of(write_text(out, USAGE), Status::Words);
     };
     match audit_job(alloc, files, &words) {
         Ok(job) => write_verdict(alloc, out, job, steps),
@@ -120,7 +120,7 @@ fn write_verdict<K: Sink, L: Ledger>(
         return Status::NoMemory;
     };
     match verdict.line(alloc) {
-        Ok(line) => status_of(write_line(out, &line), verdict.status()),
+        Ok(line) => status_of(write_text(out, &line), verdict.status()),
         Err(_) => Status::NoMemory,
     }
 }
@@ -137,7 +137,7 @@ fn write_halt<K: Sink>(out: &mut K, halt: &Halt) -> Status
         Halt::ScriptRefused(line) => (Status::ScriptRefused, line),
         Halt::Memory => return Status::NoMemory,
     };
-    status_of(write_line(out, line), status)
+    status_of(write_text(out, line), status)
 }
 
 /// The status of a line that was written whole, or of why it wasn't.

@@ -25,7 +25,7 @@ pub record AreRuns (entries : List Obs) (runs : List (Arc (List Obs) Global)) : 
   pub within : chunk * length runs ≤ length entries
   pub ends : (k : ℕ) (d : Arc (List Obs) Global) → k < length runs → EndsAt entries (k + 1) (arc_value (slice_index_or runs k d))
 
--- the recent runs have the entries behind the first chunks, one behind another
+-- the recent runs have the first of the entries behind so many chunks, one behind another
 pub record AreRecent (entries : List Obs) (chunks : ℕ) (recent : List (Arc (List Obs) Global)) : Type 0 where
   pub within : chunk * chunks + length (entries_of recent) ≤ length entries
   pub joined : take (chunk * chunks) entries ++ entries_of recent ≡ take (chunk * chunks + length (entries_of recent)) entries

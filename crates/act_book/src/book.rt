@@ -14,7 +14,7 @@ use std::alloc::Global;
 use std::marker::Model;
 use std::sync::Arc;
 
-/// How many entries a chunk has. A run that ends with a chunk has one, two, four, and so on.
+/// How many entries a chunk has. A run that ends with a chunk has one chunk, two, four, and so on.
 pub const CHUNK: usize = 256;
 
 /// Why an entry isn't added.
@@ -30,11 +30,12 @@ pub enum BookFault {
 #[derive(Drop)]
 pub struct Book {
     entries: Vec<Obs>,
-    /// For each full chunk the run that ends with it. The run of chunk n, counted from 1, has as many chunks as the greatest
-    /// power of two that divides n, so that the first n chunks are at most twelve runs.
+    /// For each full chunk the run that ends with it; that of the last is made before the next entry is added. The run of chunk
+    /// n, counted from 1, has as many chunks as the greatest power of two that divides n, so that the first n chunks are at
+    /// most twelve runs.
     runs: Vec<Arc<Run, Global>>,
-    /// Runs of the entries behind the full chunks, one behind another, each longer than the next.
-    /// They have all those entries but the last, of which there are no more than a part has.
+    /// Runs of the entries behind these chunks, one behind another, each longer than the next. They have all those entries but
+    /// the last, of which there are no more than a part has.
     recent: Vec<Arc<Run, Global>>,
 }
 
@@ -143,8 +144,8 @@ impl Book {
     }
 }
 
-/// The run that ends with the first chunk that no run ends with, where a run has that chunk. It takes
-/// in each run before it that is as long as it.
+/// The run that ends with the first chunk that no run ends with, where a run has that chunk. It takes in each run before it
+/// that is as long as it.
 fn next_run(
     entries: &Vec<Obs>,
     runs: &[Arc<Run, Global>],

@@ -18,7 +18,7 @@ pub fn order(first: &Obs, second: &Obs) -> Ordering
 }
 
 /// How a rate of a code and a day stands to an entry.
-pub fn order_of_rate(code: u32, day: Day, entry: &Obs) -> Ordering
+fn order_of_rate(code: u32, day: Day, entry: &Obs) -> Ordering
     ensures { result ≡ order_of (rate_on code day) entry.now }
 {
     match *entry {

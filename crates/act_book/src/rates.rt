@@ -28,8 +28,8 @@ pub fn latest_among(entries: &[Obs], code: u32, until: Day) -> Option<(Day, Fixe
     None
 }
 
-/// The later of a rate, and of the latest rate of a code dated not after a day among the entries
-/// behind it.
+/// The later of `first`, and of the latest rate of a code dated not after a day among entries that stand behind it. `&` tests
+/// all without a branch for each part.
 fn latest_from(first: (Day, Fixed), entries: &[Obs], code: u32, until: Day) -> (Day, Fixed)
     ensures { Some result ≡ later (Some first) (latest_rate entries.now code until) }
 {

@@ -8,8 +8,8 @@ use act_num::NoMemory;
 use std::alloc::Global;
 use std::sync::Arc;
 
-/// How many entries a part has, which are the fewest of a run. A run behind the full chunks has one
-/// part, two, or four.
+/// How many entries a part has, which are the fewest of a run. A run behind the full chunks has one part, two, or four; one
+/// of eight, a whole chunk, stands there only until the chunk's own run is made.
 pub const PART: usize = 32;
 
 /// How many entries some runs have.
@@ -24,8 +24,8 @@ pub fn count_of(runs: &[Arc<Run, Global>]) -> usize
     count
 }
 
-/// Puts the first of some runs behind others, as long as they have no more than so many entries
-/// together, and gives how many they have. Both lists share them then.
+/// Puts the first of some runs behind others, as long as they have no more than so many entries together, and gives how many
+/// they have. Both lists share them then.
 pub fn push_within(
     shared: &mut Vec<Arc<Run, Global>>,
     runs: &[Arc<Run, Global>],

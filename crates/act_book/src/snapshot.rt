@@ -17,8 +17,7 @@ use std::alloc::Global;
 use std::marker::Model;
 use std::sync::Arc;
 
-/// The first entries of a book. It shares runs with the book, and has a copy of the entries behind
-/// them.
+/// The first entries of a book. It shares runs with the book, and has a copy of the entries behind them.
 #[derive(Drop)]
 pub struct Snapshot {
     version: u64,
@@ -42,8 +41,7 @@ impl Model for Snapshot {
 }
 
 impl Snapshot {
-    /// The first `v` entries of a book, whose runs it shares. `recent` has the runs behind the full
-    /// chunks.
+    /// The first `v` entries of a book, whose runs it shares. `recent` has the runs behind those that end with chunks.
     pub(crate) fn first(
         entries: &Vec<Obs>,
         runs: &[Arc<Run, Global>],

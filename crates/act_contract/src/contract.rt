@@ -4,7 +4,7 @@ ghost use Rattle.std.specs.Arc.{arc_value};
 ghost use Rattle.act_amort.specs.Kinds.{amortizes};
 ghost use Rattle.act_credit.specs.Kinds.{is_guarantee};
 ghost use Rattle.act_equity.specs.Kinds.{is_stock_or_outright};
-ghost use Rattle.act_kind.specs.Takes.{Takes};
+ghost use Rattle.act_kind.specs.Takes.{Takes, with_state};
 ghost use Rattle.act_model.specs.Kind.{type_of};
 ghost use Rattle.act_option.specs.Kinds.{is_exercised};
 ghost use Rattle.act_profile.specs.Built.{IsBuilt};
@@ -115,6 +115,54 @@ pub fn step<O: Observed, L: Ledger>(
         Family::Swap => act_swap::step(terms, plan, state, event, children, seen, steps),
         Family::Option => act_option::step(terms, plan, state, event, seen, steps),
         Family::Credit => act_credit::step(terms, plan, state, event, children, seen, steps),
+    }
+}
+
+/// Takes the step of an event, as [`step`] does, in place: the state becomes the one after the event, and what the event
+/// pays is answered. Where the run stops the state is of no use.
+#[inline(always)]
+pub fn advance<O: Observed, L: Ledger>(
+    terms: &Terms,
+    plan: &Plan,
+    state: &mut State,
+    event: &Event,
+    children: &[Arc<Run, Global>],
+    seen: &O,
+    steps: &mut Steps<L>,
+) -> Result<Fixed, Stop>
+    requires built { IsBuilt terms.now.kind }
+    requires plan { plan_of terms.now ≡ Ok plan.now }
+    ensures { Takes (with_state state.new result)
+        (step_of terms.now plan.now (O.entries seen.now) (map arc_value children.now) state.old event.now) steps.old steps.new }
+{
+    match family_of(&terms.kind) {
+        Family::Loan => act_loan::advance(terms, plan, state, event, seen, steps),
+        Family::Amortizing => act_amort::advance(terms, plan, state, event, seen, steps),
+        _ => advance_by_step(terms, plan, state, event, children, seen, steps),
+    }
+}
+
+/// The same, by way of [`step`].
+fn advance_by_step<O: Observed, L: Ledger>(
+    terms: &Terms,
+    plan: &Plan,
+    state: &mut State,
+    event: &Event,
+    children: &[Arc<Run, Global>],
+    seen: &O,
+    steps: &mut Steps<L>,
+) -> Result<Fixed, Stop>
+    requires built { IsBuilt terms.now.kind }
+    requires plan { plan_of terms.now ≡ Ok plan.now }
+    ensures { Takes (with_state state.new result)
+        (step_of terms.now plan.now (O.entries seen.now) (map arc_value children.now) state.old event.now) steps.old steps.new }
+{
+    match step(terms, plan, state, event, children, seen, steps) {
+        Ok((payoff, next)) => {
+            *state = next;
+            Ok(payoff)
+        }
+        Err(stop) => Err(stop),
     }
 }
 

@@ -4,4 +4,4 @@
 
 mod contract;
 
-pub use contract::{currency_of, maturity, schedule, start, step};
+pub use contract::{advance, currency_of, maturity, schedule, start, step};

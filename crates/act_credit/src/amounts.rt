@@ -12,7 +12,7 @@ ghost use Rattle.act_profile.specs.Formula.{lesser, times};
 
 use crate::exposures::{plus, sum_of_exposures};
 use act_date::Day;
-use act_kind::passed;
+use act_kind::pass;
 use act_model::{
     Cec, Ceg, Covered, EventType, GuaranteedExposure, Kind, Observed, Run, State, Stop,
 };
@@ -173,10 +173,9 @@ fn after_credit_event(day: Day, amount: Option<Fixed>, state: &State) -> Option<
     ensures { result ≡ after_credit_event day amount state.now }
 {
     let xa = amount?;
-    let next = State {
-        xa,
-        xd: Some(day),
-        ..passed(EventType::XD, day, state)
-    };
+    let mut next = *state;
+    pass(EventType::XD, day, &mut next);
+    next.xa = xa;
+    next.xd = Some(day);
     Some((Fixed::ZERO, next))
 }

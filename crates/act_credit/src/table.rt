@@ -1,5 +1,5 @@
 //! The table of steps of a guarantee, but for its credit event, which reads many codes.
-use act_kind::{Payment, Table, passed, signed};
+use act_kind::{Payment, Table, pass, signed};
 use act_model::{Common, Event, EventType, State};
 use act_num::Fixed;
 use std::marker::Model;
@@ -48,8 +48,9 @@ impl Table for CreditTable<'_> {
         None
     }
 
-    fn accrued(&self, event: &Event, state: &State) -> Option<State> {
-        Some(passed(event.kind, event.calc, state))
+    fn accrue(&self, event: &Event, state: &mut State) -> Option<()> {
+        pass(event.kind, event.calc, state);
+        Some(())
     }
 
     fn payoff(&self, event: &Event, _value: Option<Fixed>, state: &State) -> Option<Fixed> {
@@ -59,13 +60,11 @@ impl Table for CreditTable<'_> {
         }
     }
 
-    fn state_after(&self, event: &Event, _value: Option<Fixed>, state: &State) -> Option<State> {
+    fn change(&self, event: &Event, _value: Option<Fixed>, state: &mut State) -> Option<()> {
         match event.kind {
-            EventType::STD => Some(State {
-                xa: Fixed::ZERO,
-                ..*state
-            }),
-            _ => Some(*state),
+            EventType::STD => state.xa = Fixed::ZERO,
+            _ => {}
         }
+        Some(())
     }
 }

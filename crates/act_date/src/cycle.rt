@@ -108,7 +108,7 @@ fn add_months(day: Day, count: u64) -> Option<Day>
     if count > MOST_MONTHS {
         return None;
     }
-    let months = 12 * year as u64 + (month as u64 - 1) + count;
+    let months = 12 * year as u32 + (month as u32 - 1) + count as u32;
     let later = Date::constrain((months / 12) as i16, (months % 12 + 1) as u8, day_of_month);
     Day::from_number(i64::from(later.to_unix_epoch_day()))
 }

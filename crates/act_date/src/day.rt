@@ -43,6 +43,9 @@ const FIRST: i64 = -25_567;
 /// The number of 2299-12-31.
 const LAST: i64 = 120_529;
 
+/// The days from the first one of jiff's calendar to 1970-01-01.
+const BEFORE_1970: i32 = 4_371_587;
+
 impl Day {
     /// The count of days from 1970-01-01, from -25567 to 120529.
     pub fn number(self) -> i32
@@ -80,8 +83,8 @@ impl Day {
         ensures same { IsSameDate (civil_of self) result }
         ensures date { IsDateOf self (civil_of self) }
     {
-        let date = jiff_core::civil::Date::from_unix_epoch_day(i64::from(self.number)).unwrap();
-        Date::from_plain(date)
+        let days = (self.number + BEFORE_1970) as u32;
+        Date::from_plain(jiff_core::civil::Date::from_days_since_min(days))
     }
 
     /// The same day as jiff's, or None where it lies outside 1900 to 2299.

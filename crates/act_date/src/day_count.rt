@@ -108,6 +108,7 @@ fn thirty_days(s: Day, t: Day) -> i64
 
 /// The same, where the last day of a month counts as the 30th, but `t` keeps its day of the month where
 /// it is the maturity date and lies in February.
+#[inline(never)]
 fn thirty_days_isda(s: Day, t: Day, maturity: Option<Day>) -> i64
     requires { s <ℤ t }
     ensures { result
@@ -150,6 +151,7 @@ fn isda_second_day(t: Day, maturity: Option<Day>) -> u8
 }
 
 /// How many of the days from 1900-01-01 to the one before the day lie in leap years.
+#[inline(never)]
 fn leap_days_before(day: Day) -> i64
     ensures { result ≡ pos (count_days in_leap_year (negsuc 25566) (unsigned_abs (day +ℤ pos 25567))) }
 {

@@ -11,7 +11,7 @@ ghost use Rattle.act_profile.specs.Step.{amount_of};
 ghost use Rattle.act_profile.specs.Trade.{plain_plan};
 
 use act_kind::{
-    Payment, Planned, Table, events_by_type, opposite, passed, put_in_order, shifting, signed,
+    Payment, Planned, Table, events_by_type, opposite, pass, put_in_order, shifting, signed,
     trade_payoff, unshifted,
 };
 use act_model::{
@@ -214,8 +214,9 @@ impl Table for Outright<'_> {
         None
     }
 
-    fn accrued(&self, event: &Event, state: &State) -> Option<State> {
-        Some(passed(event.kind, event.calc, state))
+    fn accrue(&self, event: &Event, state: &mut State) -> Option<()> {
+        pass(event.kind, event.calc, state);
+        Some(())
     }
 
     fn payoff(&self, event: &Event, value: Option<Fixed>, _state: &State) -> Option<Fixed> {
@@ -226,8 +227,8 @@ impl Table for Outright<'_> {
         }
     }
 
-    fn state_after(&self, _event: &Event, _value: Option<Fixed>, state: &State) -> Option<State> {
-        Some(*state)
+    fn change(&self, _event: &Event, _value: Option<Fixed>, _state: &mut State) -> Option<()> {
+        Some(())
     }
 }
 

@@ -1,5 +1,5 @@
 //! STK: a stock, which pays the dividends that are observed.
-use act_kind::{Payment, Table, passed, signed, trade_payoff};
+use act_kind::{Payment, Table, pass, signed, trade_payoff};
 use act_model::{Common, Event, EventType, State};
 use act_num::Fixed;
 use std::marker::Model;
@@ -48,8 +48,9 @@ impl Table for Stock<'_> {
         None
     }
 
-    fn accrued(&self, event: &Event, state: &State) -> Option<State> {
-        Some(passed(event.kind, event.calc, state))
+    fn accrue(&self, event: &Event, state: &mut State) -> Option<()> {
+        pass(event.kind, event.calc, state);
+        Some(())
     }
 
     fn payoff(&self, event: &Event, _value: Option<Fixed>, _state: &State) -> Option<Fixed> {
@@ -59,7 +60,7 @@ impl Table for Stock<'_> {
         }
     }
 
-    fn state_after(&self, _event: &Event, _value: Option<Fixed>, state: &State) -> Option<State> {
-        Some(*state)
+    fn change(&self, _event: &Event, _value: Option<Fixed>, _state: &mut State) -> Option<()> {
+        Some(())
     }
 }

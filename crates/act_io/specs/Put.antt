@@ -1,5 +1,5 @@
 -- What writing a piece answers.
-use Rattle.std.specs.Prelude.{◌≡◌, ℕ, ◌<◌, ◌≤◌, List, ◌++◌, length, take, Option, option_map, Result, Ok, Err}
+use Rattle.std.specs.Prelude.{◌≡◌, ℕ, ◌<◌, ◌≤◌, ◌==◌, if◌then◌else◌, List, [], ◌∷◌, ◌++◌, length, take, Option, option_map, Result, Ok, Err}
 use Rattle.act_io.specs.declared.sink.PutFault.{PutFault}
 use Rattle.act_io.specs.declared.sink.PutFault.TheVariants.{Failed, NoMemory}
 use Rattle.act_io.specs.Faults.{next_count}
@@ -18,3 +18,8 @@ abbrev pub put_faults : {A : Type 0} → Result A PutFault → ℕ → ℕ
 put_faults (Err Failed) before = next_count before
 put_faults (Err NoMemory) before = before
 put_faults (Ok answer) before = before
+
+-- the first line of a text, with its line feed where it has one
+abbrev pub first_line : List ℕ → List ℕ
+first_line [] = []
+first_line (byte ∷ bytes) = byte ∷ (if byte == 10 then [] else first_line bytes)

@@ -3,14 +3,16 @@ ghost use Rattle.std.specs.Prelude.{◌≡◌, ◌≢◌, ◌≤◌, [], Some, O
 ghost use Rattle.act_io.specs.Faults.{last_count};
 ghost use Rattle.act_io.specs.declared.sink.PutFault.TheVariants.{NoMemory};
 ghost use Rattle.act_io.specs.Memory.{put_answer, sink_after};
-ghost use Rattle.act_io.specs.Put.{Puts, put_faults};
+ghost use Rattle.act_io.specs.Put.{Puts, first_line, put_faults};
 
+use crate::sink::first_line;
 use crate::{PutFault, Sink};
 use std::alloc::Global;
 use std::marker::Model;
 
-/// Keeps what is written. The calls whose numbers, from 1, are listed fail; a call with an empty piece, or
-/// that memory ran out for, has no number. A call takes its whole piece, or so many bytes as are taken at most.
+/// Keeps what is written. The calls of `put` and `put_lines` whose numbers, from 1, are listed fail; a call with an empty
+/// piece, or that memory ran out for, has no number. A call of `put` takes its whole piece, or so many bytes as are taken at
+/// most.
 #[derive(Drop)]
 pub struct MemSink {
     written: Vec<u8>,
@@ -100,5 +102,16 @@ impl Sink for MemSink {
         }
         self.calls = call;
         Ok(taken)
+    }
+
+    /// Takes from the first line alone, as one call of `put`, so that each line has a number of its own.
+    fn put_lines(&mut self, text: &[u8]) -> Result<usize, PutFault>
+        ensures took { Puts text.now (Some self.old.written) (Some self.new.written) result }
+        ensures empty { length text.now ≡ 0 → result ≡ Ok 0 }
+        ensures faults { self.new.faults ≡ put_faults result self.old.faults }
+        ensures answer { result ≢ Err NoMemory → result ≡ put_answer self.old (first_line text.now) }
+        ensures after { self.new ≡ sink_after result self.old (first_line text.now) }
+    {
+        self.put(first_line(text))
     }
 }

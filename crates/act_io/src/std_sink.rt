@@ -8,11 +8,12 @@ use crate::{PutFault, Sink};
 use std::alloc::Global;
 use std::marker::Model;
 
-/// How many bytes are gathered before they are written: 64 KiB.
-const MOST_GATHERED: usize = 65_536;
+/// How many bytes there is room for, once a piece has come: 64 KiB.
+const ROOM: usize = 65_536;
 
-/// The standard output. What it takes is gathered, and written, once and in order, where 64 KiB or more are gathered and by
-/// [`StdSink::finish`]. Contracts see what is gathered and the count of faults. A write that takes nothing is a fault.
+/// The standard output. What it takes is gathered, up to some 64 KiB, and written once and in order: where the next piece
+/// doesn't fit behind it, and by [`StdSink::finish`]. Contracts see what is gathered and the count of faults. A write that
+/// takes nothing is a fault.
 #[derive(Drop)]
 pub struct StdSink<'a, R: Print> {
     rt: &'a R,
@@ -56,6 +57,23 @@ impl<'a, R: Print> StdSink<'a, R> {
         Ok(())
     }
 
+    /// Takes the first bytes of a piece that isn't empty, and for which there is no room behind what is gathered.
+    #[cold]
+    #[inline(never)]
+    fn put_past_room(&mut self, piece: &[u8]) -> Result<usize, PutFault>
+        ensures took { Puts piece.now None None result }
+        ensures gathered { Gathers piece.now self.old.gathered self.new.gathered result }
+        ensures memory { result ≢ Err NoMemory }
+        ensures faults { self.new.faults ≡ put_faults result self.old.faults }
+    {
+        self.finish()?;
+        let first = &piece[..piece.len().min(ROOM)];
+        if self.gathered.reserve(ROOM).is_ok() && self.gathered.extend_from_slice(first).is_ok() {
+            return Ok(first.len());
+        }
+        self.write(piece)
+    }
+
     /// Writes the first bytes of a piece that isn't empty, and answers how many.
     fn write(&mut self, piece: &[u8]) -> Result<usize, PutFault>
         ensures took { Puts piece.now None None result }
@@ -78,7 +96,8 @@ impl<R: Print> Sink for StdSink<'_, R> {
 
     ghost faults = { λ s. s.faults };
 
-    /// A piece for which there is no memory, or that has 64 KiB or more, is written at once, behind what is gathered.
+    /// Where a piece doesn't fit, what is gathered is written first. Where there is no memory for it, it is then written at
+    /// once.
     #[inline]
     fn put(&mut self, piece: &[u8]) -> Result<usize, PutFault>
         ensures took { Puts piece.now None None result }
@@ -90,13 +109,22 @@ impl<R: Print> Sink for StdSink<'_, R> {
         if piece.is_empty() {
             return Ok(0);
         }
-        if self.gathered.len() >= MOST_GATHERED {
-            self.finish()?;
-        }
-        if piece.len() < MOST_GATHERED && self.gathered.extend_from_slice(piece).is_ok() {
+        let room = self.gathered.capacity() - self.gathered.len();
+        if piece.len() <= room && self.gathered.extend_from_slice(piece).is_ok() {
             return Ok(piece.len());
         }
-        self.finish()?;
-        self.write(piece)
+        self.put_past_room(piece)
+    }
+
+    /// Takes lines together, as one piece.
+    #[inline]
+    fn put_lines(&mut self, text: &[u8]) -> Result<usize, PutFault>
+        ensures took { Puts text.now None None result }
+        ensures empty { length text.now ≡ 0 → result ≡ Ok 0 }
+        ensures gathered { Gathers text.now self.old.gathered self.new.gathered result }
+        ensures memory { result ≢ Err NoMemory }
+        ensures faults { self.new.faults ≡ put_faults result self.old.faults }
+    {
+        self.put(text)
     }
 }

@@ -1,3 +1,4 @@
+pub mod Found
 pub mod Pieces
 pub mod Readings
 pub mod Lengths

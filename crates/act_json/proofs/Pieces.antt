@@ -78,6 +78,17 @@ unfolding piece_len
 piece_len-other [] some plain none = absurd (omega arith)
 piece_len-other (b ∷ rest) some plain none = simp (plain, none)
 
+-- a byte that begins no string and no number is a piece
+pub alone : (text : List ℕ) (len : ℕ) → len < length text → nat_eq (get_or text len 0) 34 ≡ false → is_number_byte (get_or text len 0) ≡ false → 1 ≡ piece_len (drop len text)
+alone text len more plain none =
+    rw (drop-cons text len 0 more) (piece_len-other (get_or text len 0 ∷ drop (suc len) text) (omega arith) plain none)
+
+-- a string is a piece
+pub string : (text : List ℕ) (len n : ℕ) → len < length text → get_or text len 0 ≡ 34 → n ≡ string_len (drop (len + 1) text) → 1 + n ≡ piece_len (drop len text)
+string text len n more quote is =
+    let here : get_or (drop len text) 0 0 ≡ get_or text len 0 = rw (drop-cons text len 0 more) refl in
+    piece_len-string (drop len text) n (omega (arith, length-drop len text)) (here ∙ quote) (is ∙ ap string_len (sym (drop-drop 1 len text)))
+
 -- a slice from its second byte on
 pub rest_is : (text : List ℕ) → take (length text - 1) (drop 1 text) ≡ drop 1 text
 rest_is text = take_all _ _ (omega (arith, length-drop 1 text))

@@ -1,9 +1,13 @@
 //! The fields of a JSON object. A field is given where the object has its name with another value than null and
 //! the empty text.
-ghost use Rattle.std.specs.Prelude.{◌≡◌, ◌≢◌, ◌≤◌, Err, IfOk, option_map, string_bytes};
+ghost use Rattle.std.specs.Prelude.{◌≡◌, ◌≢◌, ◌≤◌, Ok, Err, IfOk, option_map, string_bytes};
 ghost use Rattle.std.specs.Option.{ForSome, ok_or};
+ghost use Rattle.std.specs.Result.{result_ok};
+ghost use Rattle.act_num.specs.Decimal.{decimal_of};
+ghost use Rattle.act_date.specs.CycleText.{cycle_of, period_of};
+ghost use Rattle.act_date.specs.Text.{day_of};
 ghost use Rattle.serde_json.specs.View.{view};
-ghost use Rattle.act_json.specs.Fields.{cycle_field, day_field, decimal_field, field_of, period_field, word_field};
+ghost use Rattle.act_json.specs.Fields.{cycle_field, day_field, decimal_field, field_of, meaning_of, member_text, name_of, period_field, word_field};
 ghost use Rattle.act_json.specs.Results.{result_map};
 
 use crate::JsonFault;
@@ -33,7 +37,14 @@ pub fn text_in<'a>(value: &'a Value, name: &str) -> Result<Option<&'a str>, Json
     if !value.is_object() {
         return Err(JsonFault::WrongShape);
     }
-    match value.get(name) {
+    text_given(value.get(name))
+}
+
+/// The text that a member gives, where it is there.
+pub(crate) fn text_given(member: Option<&Value>) -> Result<Option<&str>, JsonFault>
+    ensures { result_map (option_map (λ text. text.now)) result ≡ member_text (option_map (λ value. view value.now) member.entry) }
+{
+    match member {
         None | Some(Value::Null) => Ok(None),
         Some(Value::String(text)) if text.is_empty() => Ok(None),
         Some(Value::String(text)) => Ok(Some(text.as_str())),
@@ -46,7 +57,14 @@ pub fn text_in<'a>(value: &'a Value, name: &str) -> Result<Option<&'a str>, Json
 pub fn decimal(value: &Value, name: &str) -> Result<Option<Fixed>, JsonFault>
     ensures { result ≡ decimal_field name.now (view value.now) }
 {
-    let Some(text) = text_in(value, name)? else {
+    decimal_said(text_in(value, name)?)
+}
+
+/// The number that a text says, where it is given.
+pub(crate) fn decimal_said(text: Option<&str>) -> Result<Option<Fixed>, JsonFault>
+    ensures { result ≡ meaning_of (λ t. result_ok (decimal_of t)) JsonFault.BadValue (Ok (option_map (λ t. t.now) text.entry)) }
+{
+    let Some(text) = text else {
         return Ok(None);
     };
     Fixed::parse(text.as_bytes())
@@ -58,7 +76,14 @@ pub fn decimal(value: &Value, name: &str) -> Result<Option<Fixed>, JsonFault>
 pub fn day(value: &Value, name: &str) -> Result<Option<Day>, JsonFault>
     ensures { result ≡ day_field name.now (view value.now) }
 {
-    let Some(text) = text_in(value, name)? else {
+    day_said(text_in(value, name)?)
+}
+
+/// The day that a text says, where it is given.
+pub(crate) fn day_said(text: Option<&str>) -> Result<Option<Day>, JsonFault>
+    ensures { result ≡ meaning_of (λ t. result_ok (day_of t)) JsonFault.BadValue (Ok (option_map (λ t. t.now) text.entry)) }
+{
+    let Some(text) = text else {
         return Ok(None);
     };
     parse_day(text.as_bytes())
@@ -72,7 +97,15 @@ pub fn cycle(value: &Value, name: &str) -> Result<Option<Cycle>, JsonFault>
     ensures value { result ≡ cycle_field name.now (view value.now) }
     ensures leads_on { IfOk result (λ found. ForSome found (λ c. 1 ≤ c.count)) }
 {
-    let Some(text) = text_in(value, name)? else {
+    cycle_said(text_in(value, name)?)
+}
+
+/// The cycle that a text says, where it is given.
+pub(crate) fn cycle_said(text: Option<&str>) -> Result<Option<Cycle>, JsonFault>
+    ensures value { result ≡ meaning_of (λ t. result_ok (cycle_of t)) JsonFault.BadValue (Ok (option_map (λ t. t.now) text.entry)) }
+    ensures leads_on { IfOk result (λ found. ForSome found (λ c. 1 ≤ c.count)) }
+{
+    let Some(text) = text else {
         return Ok(None);
     };
     parse_cycle(text.as_bytes())
@@ -85,7 +118,14 @@ pub fn cycle(value: &Value, name: &str) -> Result<Option<Cycle>, JsonFault>
 pub fn period(value: &Value, name: &str) -> Result<Option<Cycle>, JsonFault>
     ensures { result ≡ period_field name.now (view value.now) }
 {
-    let Some(text) = text_in(value, name)? else {
+    period_said(text_in(value, name)?)
+}
+
+/// The period that a text says, where it is given.
+pub(crate) fn period_said(text: Option<&str>) -> Result<Option<Cycle>, JsonFault>
+    ensures { result ≡ meaning_of (λ t. result_ok (period_of t)) JsonFault.BadValue (Ok (option_map (λ t. t.now) text.entry)) }
+{
+    let Some(text) = text else {
         return Ok(None);
     };
     parse_period(text.as_bytes())
@@ -98,7 +138,15 @@ pub fn word(alloc: Global, value: &Value, name: &str) -> Result<Option<String>, 
     ensures { result ≢ Err JsonFault.NoMemory
         → result_map (option_map string_bytes) result ≡ word_field name.now (view value.now) }
 {
-    let Some(text) = text_in(value, name)? else {
+    word_said(alloc, text_in(value, name)?)
+}
+
+/// The name that a text is, where it is given.
+pub(crate) fn word_said(alloc: Global, text: Option<&str>) -> Result<Option<String>, JsonFault>
+    ensures { result ≢ Err JsonFault.NoMemory
+        → result_map (option_map string_bytes) result ≡ meaning_of name_of JsonFault.BadName (Ok (option_map (λ t. t.now) text.entry)) }
+{
+    let Some(text) = text else {
         return Ok(None);
     };
     if !is_name(text) {

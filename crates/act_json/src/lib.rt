@@ -4,10 +4,12 @@
 
 mod fault;
 mod fields;
+mod members;
 mod quoting;
 mod reading;
 
 pub use fault::JsonFault;
 pub use fields::{cycle, day, decimal, period, required, text, text_in, word};
+pub use members::Members;
 pub use quoting::{is_quoted, quote};
 pub use reading::read;

@@ -1,7 +1,7 @@
 //! The quoting pass: bare numbers of a JSON text are put in quotes, so that they are read as texts.
-ghost use Rattle.std.specs.Prelude.{◌≡◌, ◌<◌, ◌≤◌, ◌++◌, length, take, drop, slice_index, true, IfOk, IsTrue};
+ghost use Rattle.std.specs.Prelude.{◌≡◌, ◌==◌, ◌<◌, ◌≤◌, ◌++◌, length, take, drop, slice_index, true, false, IfOk, IsTrue};
 ghost use Rattle.std.specs.List.{prefix_len};
-ghost use Rattle.act_json.specs.Quoting.{is_number_byte, piece_len, quoted, quoted_piece, starts_number, string_len};
+ghost use Rattle.act_json.specs.Quoting.{is_number_byte, piece_len, quotation_mark, quoted, quoted_piece, starts_number, string_len};
 
 use act_num::NoMemory;
 use std::alloc::{AllocError, Global};
@@ -45,7 +45,8 @@ fn push_number(text: &mut Vec<u8>, number: &[u8]) -> Result<(), AllocError>
     Ok(())
 }
 
-/// How many bytes stand before the first number outside strings, or how many there are where there is none.
+/// How many bytes stand before the first number outside strings, or how many there are where there is none. What mostly
+/// stands there, strings and what is between them, is told apart first.
 fn len_before_number(text: &[u8]) -> usize
     ensures within { result ≤ length text.now }
     ensures copied { quoted text.now ≡ take result text.now ++ quoted (drop result text.now) }
@@ -53,8 +54,16 @@ fn len_before_number(text: &[u8]) -> usize
         0 < length behind → starts_number (slice_index behind 0) ≡ true }
 {
     let mut len = 0;
-    'pieces: while len < text.len() && !is_number_start(text[len]) {
-        len += piece_len(&text[len..]);
+    'pieces: while len < text.len() {
+        if is_between(text[len]) {
+            len += 1;
+        } else if text[len] == b'"' {
+            len += 1 + string_len(&text[len + 1..]);
+        } else if is_number_start(text[len]) {
+            return len;
+        } else {
+            len += piece_len(&text[len..]);
+        }
     }
     len
 }
@@ -103,6 +112,16 @@ fn number_len(text: &[u8]) -> usize
     text.iter()
         .take_while(|byte| is_number_byte(**byte))
         .count()
+}
+
+/// Whether a byte is one of those that mostly stand between strings: a line end, a space, a comma or a colon.
+#[tactic(auto, unfolding(crate::specs::Quoting::is_number_byte, crate::specs::Quoting::starts_number))]
+fn is_between(byte: u8) -> bool
+    ensures no_quote { IsTrue result → (byte == quotation_mark) ≡ false }
+    ensures no_number { IsTrue result → is_number_byte byte ≡ false }
+    ensures no_start { IsTrue result → starts_number byte ≡ false }
+{
+    matches!(byte, b'\n' | b' ' | b',' | b':')
 }
 
 /// A byte that numbers are written with.

@@ -96,7 +96,7 @@ pub fn events_by_type(
     ensures no_fault { IfOk result (λ _. first_fault common.now 0 types.now ≡ None) }
     ensures first_fault { IfErr result (λ fault. fault ≢ PlanFault.NoMemory → first_fault common.now 0 types.now ≡ Some fault) }
 {
-    let mut events = Vec::new(alloc);
+    let mut events = Vec::with_capacity(alloc, date_count(types))?;
     'types: for answer in types {
         match answer {
             Ok(dates) => add_events(common, dates, &mut events)?,
@@ -104,6 +104,19 @@ pub fn events_by_type(
         }
     }
     Ok(events)
+}
+
+/// How many dates the types have, or the most that a contract may have, where they are more.
+fn date_count(types: &[Result<Vec<Planned>, PlanFault>]) -> usize
+    ensures { result ≤ MOST_DATES }
+{
+    let mut count = 0;
+    'types: for answer in types {
+        if let Ok(dates) = answer {
+            count = MOST_DATES.min(dates.len().saturating_add(count));
+        }
+    }
+    count
 }
 
 /// Adds the events of one type's dates. After a fault some of them may have been added.

@@ -1,7 +1,7 @@
 //! The step of an event, by the line that the table of its kind of contract has for it.
-ghost use Rattle.std.specs.Prelude.{◌≡◌, List, Option, Ok, option_and_then};
+ghost use Rattle.std.specs.Prelude.{◌≡◌, List, Option, Ok, option_and_then, option_map};
 ghost use Rattle.act_kind.specs.Payment.{factor_code, payment_of, read_code};
-ghost use Rattle.act_kind.specs.Takes.{Takes};
+ghost use Rattle.act_kind.specs.Takes.{Takes, with_state};
 ghost use Rattle.act_model.specs.Observed.{observation};
 ghost use Rattle.act_model.specs.Run.{Stream};
 ghost use Rattle.act_model.specs.declared.event.Event.{Event};
@@ -43,22 +43,22 @@ pub trait Table {
     fn change_code(&self, event: &Event) -> Option<u32>
         ensures { result ≡ change_code (line self.now event.now).change };
 
-    /// The state that has accrued up to an event, or None where it is undefined.
-    fn accrued(&self, event: &Event, state: &State) -> Option<State>
-        ensures { result ≡ accrual self.now event.now state.now };
+    /// Lets accrue in a state what does up to an event. Where that is undefined it answers None, and the state is of no use.
+    fn accrue(&self, event: &Event, state: &mut State) -> Option<()>
+        ensures { option_map (λ _. state.new) result ≡ accrual self.now event.now state.old };
 
     /// What an event pays, by the value of its code, or None where that is undefined.
     fn payoff(&self, event: &Event, value: Option<Fixed>, state: &State) -> Option<Fixed>
         ensures { result ≡ amount_of (line self.now event.now).payoff value state.now };
 
-    /// The state after an event, by the value of its code, or None where it is undefined.
-    fn state_after(&self, event: &Event, value: Option<Fixed>, state: &State) -> Option<State>
-        ensures { result ≡ state_after (line self.now event.now).change value state.now };
+    /// Makes of a state the one after an event, by the value of its code. Where that is undefined it answers None, and the
+    /// state is of no use.
+    fn change(&self, event: &Event, value: Option<Fixed>, state: &mut State) -> Option<()>
+        ensures { option_map (λ _. state.new) result ≡ state_after (line self.now event.now).change value state.old };
 }
 
-/// The step of an event of a contract, by its table: first its reads, the settlement factor before the others, and then
-/// what has accrued, what is paid and the state that is left. An event before a purchase pays nothing, and reads nothing
-/// for it. Where it is Ok it ticks once, and else not at all.
+/// The step of an event of a contract, by its table, as [`advance`] takes it: what the event pays, and the state after it.
+/// Where it is Ok it ticks once, and else not at all.
 pub fn take_step<T: Table, O: Observed, L: Ledger>(
     terms: &Terms,
     plan: &Plan,
@@ -72,6 +72,31 @@ pub fn take_step<T: Table, O: Observed, L: Ledger>(
         T.line table.now event.now ≡ line_by terms.now.common terms.now.kind plan.now children event.now →
         T.accrual table.now event.now ≡ accrual_by terms.now.common terms.now.kind event.now →
         Takes result (step_by_line terms.now plan.now (O.entries seen.now) children state.now event.now) steps.old steps.new }
+{
+    let mut next = *state;
+    match advance(terms, plan, table, &mut next, event, seen, steps) {
+        Ok(payoff) => Ok((payoff, next)),
+        Err(stop) => Err(stop),
+    }
+}
+
+/// Takes the step of an event of a contract, by its table, and answers what the event pays: first its reads, the
+/// settlement factor before the others, and then what accrues, what is paid and the change of the state. An event before
+/// a purchase pays nothing, and reads nothing for it. It ticks once; but where it stops it doesn't tick, and the state is
+/// of no use.
+pub fn advance<T: Table, O: Observed, L: Ledger>(
+    terms: &Terms,
+    plan: &Plan,
+    table: &T,
+    state: &mut State,
+    event: &Event,
+    seen: &O,
+    steps: &mut Steps<L>,
+) -> Result<Fixed, Stop>
+    ensures { (children : List Stream) →
+        T.line table.now event.now ≡ line_by terms.now.common terms.now.kind plan.now children event.now →
+        T.accrual table.now event.now ≡ accrual_by terms.now.common terms.now.kind event.now →
+        Takes (with_state state.new result) (step_by_line terms.now plan.now (O.entries seen.now) children state.old event.now) steps.old steps.new }
 {
     let factor = factor_of(terms, event.source);
     let is_unpaid = is_unpaid(terms, plan, event);
@@ -95,12 +120,12 @@ fn step_by<T: Table, O: Observed, L: Ledger>(
     factor: Option<u32>,
     is_unpaid: bool,
     event: &Event,
-    state: &State,
+    state: &mut State,
     seen: &O,
     steps: &mut Steps<L>,
-) -> Result<(Fixed, State), Stop>
-    ensures { Takes result
-        (step_by (O.entries seen.now) factor event.now (T.accrual table.now event.now) (unpaid is_unpaid (T.line table.now event.now)) state.now)
+) -> Result<Fixed, Stop>
+    ensures { Takes (with_state state.new result)
+        (step_by (O.entries seen.now) factor event.now (T.accrual table.now event.now) (unpaid is_unpaid (T.line table.now event.now)) state.old)
         steps.old steps.new }
 {
     let payment = payment_or_nothing(table, is_unpaid, event);
@@ -108,9 +133,9 @@ fn step_by<T: Table, O: Observed, L: Ledger>(
     let value = read(seen, event.day, payment.code())?;
     let other = read(seen, event.day, table.change_code(event))?;
     match outcome(table, is_unpaid, event, factor, value, other, state) {
-        Some(outcome) => {
+        Some(payoff) => {
             steps.tick();
-            Ok(outcome)
+            Ok(payoff)
         }
         None => Err(Stop::Overflow {
             day: event.day,
@@ -147,7 +172,7 @@ fn amount<T: Table>(
     }
 }
 
-/// What is paid, and the state after the event, or None where one of them is undefined.
+/// What is paid, and the state is made the one after the event; or None where one of them is undefined.
 fn outcome<T: Table>(
     table: &T,
     is_unpaid: bool,
@@ -155,16 +180,17 @@ fn outcome<T: Table>(
     factor: Option<Fixed>,
     value: Option<Fixed>,
     other: Option<Fixed>,
-    state: &State,
-) -> Option<(Fixed, State)>
-    ensures { result ≡ option_and_then (outcome (unpaid is_unpaid (T.line table.now event.now)) factor value other)
-        (T.accrual table.now event.now state.now) }
+    state: &mut State,
+) -> Option<Fixed>
+    ensures { option_map (λ payoff. (payoff, state.new)) result
+        ≡ option_and_then (outcome (unpaid is_unpaid (T.line table.now event.now)) factor value other)
+        (T.accrual table.now event.now state.old) }
 {
-    let state = table.accrued(event, state)?;
-    let amount = amount(table, is_unpaid, event, value, &state)?;
+    table.accrue(event, state)?;
+    let amount = amount(table, is_unpaid, event, value, state)?;
     let payoff = settled(factor, amount)?;
-    let next = table.state_after(event, other, &state)?;
-    Some((payoff, next))
+    table.change(event, other, state)?;
+    Some(payoff)
 }
 
 /// A payoff, multiplied with the settlement factor where there is one.

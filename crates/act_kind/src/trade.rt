@@ -93,16 +93,13 @@ pub fn first_state(status_date: Day) -> State
     }
 }
 
-/// The state as time passes up to an event: Sd never goes back, and a credit event doesn't move it.
-pub fn passed(kind: EventType, calc: Day, state: &State) -> State
-    ensures { passed kind calc state.now ≡ Some result }
+/// Lets time pass in a state up to an event: Sd never goes back, and a credit event doesn't move it.
+pub fn pass(kind: EventType, calc: Day, state: &mut State)
+    ensures { passed kind calc state.old ≡ Some state.new }
 {
     match kind {
-        EventType::CE => *state,
-        _ => State {
-            sd: Some(later_day(state.sd, calc)),
-            ..*state
-        },
+        EventType::CE => {}
+        _ => state.sd = Some(later_day(state.sd, calc)),
     }
 }
 

@@ -1,5 +1,5 @@
 //! What accrues from day to day: interest and fees.
-ghost use Rattle.std.specs.Prelude.{◌≡◌};
+ghost use Rattle.std.specs.Prelude.{◌≡◌, option_map};
 ghost use Rattle.act_profile.specs.Formula.{interest_on};
 ghost use Rattle.act_profile.specs.Loan.{accrued, accrued_fee, accrued_interest, before_event, interest_base};
 
@@ -10,28 +10,26 @@ use act_model::{ContractType, EventType, FeeBasis, State};
 use act_num::Fixed;
 
 impl LoanTerms<'_> {
-    /// The state before an event: what has accrued up to its day. Nothing accrues before IED and CE.
-    pub(crate) fn before_event(&self, kind: EventType, calc: Day, state: &State) -> Option<State>
-        ensures { result ≡ before_event self.now kind calc state.now }
+    /// Makes the state the one before an event: what has accrued up to its day. Nothing accrues before IED and CE.
+    pub(crate) fn accrue_before(&self, kind: EventType, calc: Day, state: &mut State) -> Option<()>
+        ensures { option_map (λ _. state.new) result ≡ before_event self.now kind calc state.old }
     {
         match kind {
-            EventType::IED | EventType::CE => Some(*state),
-            _ => self.accrued(calc, state),
+            EventType::IED | EventType::CE => Some(()),
+            _ => self.accrue(calc, state),
         }
     }
 
-    /// The state that has accrued up to a day. Sd never goes back.
-    fn accrued(&self, calc: Day, state: &State) -> Option<State>
-        ensures { result ≡ accrued self.now calc state.now }
+    /// Lets interest and fee accrue up to a day. Sd never goes back.
+    fn accrue(&self, calc: Day, state: &mut State) -> Option<()>
+        ensures { option_map (λ _. state.new) result ≡ accrued self.now calc state.old }
     {
         let ipac = self.accrued_interest(calc, state)?;
         let feac = self.accrued_fee(calc, state)?;
-        Some(State {
-            sd: Some(later_day(state.sd, calc)),
-            ipac,
-            feac,
-            ..*state
-        })
+        state.sd = Some(later_day(state.sd, calc));
+        state.ipac = ipac;
+        state.feac = feac;
+        Some(())
     }
 
     /// The interest accrued up to a day.

@@ -1,5 +1,5 @@
 //! The payment of an annuity.
-ghost use Rattle.std.specs.Prelude.{◌≡◌, ◌≤◌, Some, drop, length, option_and_then};
+ghost use Rattle.std.specs.Prelude.{◌≡◌, ◌≤◌, Some, drop, length, option_and_then, option_map};
 ghost use Rattle.act_annuity.specs.Payment.{annuity_payment};
 ghost use Rattle.act_profile.specs.Formula.{interest_on, plus};
 ghost use Rattle.act_profile.specs.Loan.{annuity_payment_at, annuity_payment_over, days_after};
@@ -16,13 +16,13 @@ use act_model::{Plan, State};
 use act_num::Fixed;
 
 impl LoanTerms<'_> {
-    /// The state after PRF: the payment of each redemption is the annuity payment.
-    pub(crate) fn with_payment_fixed(&self, plan: &Plan, calc: Day, state: &State) -> Option<State>
+    /// PRF: the payment of each redemption is the annuity payment.
+    pub(crate) fn fix_payment(&self, plan: &Plan, calc: Day, state: &mut State) -> Option<()>
         requires { plan.now.periods ≡ parts_between self.now plan.now.redemptions }
-        ensures { result ≡ changed with_prnxt (annuity_payment_at self.now plan.now calc state.now) state.now }
+        ensures { option_map (λ _. state.new) result ≡ changed with_prnxt (annuity_payment_at self.now plan.now calc state.old) state.old }
     {
-        let prnxt = self.annuity_payment_at(plan, calc, state)?;
-        Some(State { prnxt, ..*state })
+        state.prnxt = self.annuity_payment_at(plan, calc, state)?;
+        Some(())
     }
 
     /// The payment that redeems the notional if it is paid on each of the plan's redemptions after a day. It takes

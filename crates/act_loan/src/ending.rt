@@ -27,28 +27,22 @@ impl LoanTerms<'_> {
             .add(state.ipac)
     }
 
-    /// The state after TD: nothing is owed any more, and no interest accrues.
-    pub(crate) fn terminated(&self, state: &State) -> State
-        ensures { result
-            ≡ with_notional self.now (pos 0) (with_ipnr (pos 0) (with_ipac (pos 0) (with_feac (pos 0) state.now))) }
+    /// TD: nothing is owed any more, and no interest accrues.
+    pub(crate) fn terminate(&self, state: &mut State)
+        ensures { state.new
+            ≡ with_notional self.now (pos 0) (with_ipnr (pos 0) (with_ipac (pos 0) (with_feac (pos 0) state.old))) }
     {
-        let repaid = self.repaid(state);
-        State {
-            ipnr: Fixed::ZERO,
-            ..repaid
-        }
+        self.repay(state);
+        state.ipnr = Fixed::ZERO;
     }
 
-    /// The state after MD: nothing is owed any more.
-    pub(crate) fn repaid(&self, state: &State) -> State
-        ensures { result ≡ with_notional self.now (pos 0) (with_ipac (pos 0) (with_feac (pos 0) state.now)) }
+    /// MD: nothing is owed any more.
+    pub(crate) fn repay(&self, state: &mut State)
+        ensures { state.new ≡ with_notional self.now (pos 0) (with_ipac (pos 0) (with_feac (pos 0) state.old)) }
     {
-        let settled = State {
-            ipac: Fixed::ZERO,
-            feac: Fixed::ZERO,
-            ..*state
-        };
-        self.with_notional(Fixed::ZERO, &settled)
+        state.ipac = Fixed::ZERO;
+        state.feac = Fixed::ZERO;
+        self.set_notional(Fixed::ZERO, state);
     }
 }
 

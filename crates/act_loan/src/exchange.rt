@@ -22,31 +22,26 @@ impl LoanTerms<'_> {
         Some(self.own_opposite(paid))
     }
 
-    /// The state after IED.
-    pub(crate) fn after_exchange(&self, calc: Day, state: &State) -> Option<State>
-        ensures { result ≡ after_exchange self.now calc state.now }
+    /// IED: the loan begins.
+    pub(crate) fn exchange(&self, calc: Day, state: &mut State) -> Option<()>
+        ensures { option_map (λ _. state.new) result ≡ after_exchange self.now calc state.old }
     {
         let first = anchor_before(self.loan.cycle_anchor_date_of_interest_payment, calc);
-        let next = self.exchanged(&State {
-            sd: Some(calc),
-            ..*state
-        });
-        let ipac = self.first_interest(first, calc, &next)?;
-        Some(State { ipac, ..next })
+        state.sd = Some(calc);
+        self.begin(state);
+        state.ipac = self.first_interest(first, calc, state)?;
+        Some(())
     }
 
-    /// The state with the notional, the rate, the base and the fee that the contract begins with.
-    pub(crate) fn exchanged(&self, state: &State) -> State
-        ensures { result ≡ exchanged self.now state.now }
+    /// Sets the notional, the rate, the base and the fee that the contract begins with.
+    pub(crate) fn begin(&self, state: &mut State)
+        ensures { state.new ≡ exchanged self.now state.old }
     {
         let nt = self.own_sign(self.loan.notional_principal);
-        State {
-            nt,
-            ipnr: self.loan.nominal_interest_rate.unwrap_or(Fixed::ZERO),
-            ipcb: self.first_base(nt),
-            feac: self.own_sign(self.loan.fee.fee_accrued),
-            ..*state
-        }
+        state.nt = nt;
+        state.ipnr = self.loan.nominal_interest_rate.unwrap_or(Fixed::ZERO);
+        state.ipcb = self.first_base(nt);
+        state.feac = self.own_sign(self.loan.fee.fee_accrued);
     }
 
     /// The base of interest at first: the notional, or the given amount where the base isn't NT.

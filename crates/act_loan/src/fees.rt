@@ -21,12 +21,9 @@ impl LoanTerms<'_> {
     }
 }
 
-/// The state after FP: no fee has accrued.
-pub(crate) fn without_fee(state: &State) -> State
-    ensures { result ≡ with_feac (pos 0) state.now }
+/// FP: no fee has accrued any more.
+pub(crate) fn clear_fee(state: &mut State)
+    ensures { state.new ≡ with_feac (pos 0) state.old }
 {
-    State {
-        feac: Fixed::ZERO,
-        ..*state
-    }
+    state.feac = Fixed::ZERO;
 }

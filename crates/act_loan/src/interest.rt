@@ -9,13 +9,15 @@ use act_model::State;
 use act_num::Fixed;
 
 impl LoanTerms<'_> {
-    /// The state after IPCI: what has accrued becomes part of the notional.
-    pub(crate) fn capitalize(&self, state: &State) -> Option<State>
-        ensures { result
-            ≡ option_map (λ nt. with_notional self.now nt (with_ipac (pos 0) state.now)) (add_of state.now.nt state.now.ipac) }
+    /// IPCI: what has accrued becomes part of the notional.
+    pub(crate) fn capitalize(&self, state: &mut State) -> Option<()>
+        ensures { option_map (λ _. state.new) result
+            ≡ option_map (λ nt. with_notional self.now nt (with_ipac (pos 0) state.old)) (add_of state.old.nt state.old.ipac) }
     {
         let nt = state.nt.add(state.ipac)?;
-        Some(self.with_notional(nt, &without_interest(state)))
+        clear_interest(state);
+        self.set_notional(nt, state);
+        Some(())
     }
 }
 
@@ -26,22 +28,16 @@ pub(crate) fn interest_payoff(state: &State) -> Option<Fixed>
     state.isc.mul(state.ipac)
 }
 
-/// The state after IP: nothing has accrued.
-pub(crate) fn without_interest(state: &State) -> State
-    ensures { result ≡ with_ipac (pos 0) state.now }
+/// IP: nothing has accrued any more.
+pub(crate) fn clear_interest(state: &mut State)
+    ensures { state.new ≡ with_ipac (pos 0) state.old }
 {
-    State {
-        ipac: Fixed::ZERO,
-        ..*state
-    }
+    state.ipac = Fixed::ZERO;
 }
 
-/// The state after IPCB: the notional is the base of interest.
-pub(crate) fn with_base_fixed(state: &State) -> State
-    ensures { result ≡ with_ipcb state.now.nt state.now }
+/// IPCB: the notional becomes the base of interest.
+pub(crate) fn fix_base(state: &mut State)
+    ensures { state.new ≡ with_ipcb state.old.nt state.old }
 {
-    State {
-        ipcb: state.nt,
-        ..*state
-    }
+    state.ipcb = state.nt;
 }

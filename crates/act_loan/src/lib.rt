@@ -19,9 +19,9 @@ mod steps;
 mod table;
 mod terms;
 
-pub use pam::{schedule, start, step};
+pub use pam::{advance, schedule, start, step};
 pub use planning::resets_on;
 pub use reset::reset_rate;
-pub use steps::{start_loan, step_loan};
+pub use steps::{advance_loan, start_loan, step_loan};
 pub use table::LoanTable;
 pub use terms::LoanTerms;

@@ -19,12 +19,13 @@ impl LoanTerms<'_> {
         state.nsc.mul(self.own_sign(redeemed))
     }
 
-    /// The state after PR.
-    pub(crate) fn redeem(&self, state: &State) -> Option<State>
-        ensures { result
-            ≡ option_and_then (λ r. after_redemption self.now r state.now) (redeemed self.now self.now.type state.now) }
+    /// PR: the notional is redeemed.
+    pub(crate) fn redeem(&self, state: &mut State) -> Option<()>
+        ensures { option_map (λ _. state.new) result
+            ≡ option_and_then (λ r. after_redemption self.now r state.old) (redeemed self.now self.now.type state.old) }
     {
-        self.after_redemption(self.redeemed(state)?, state)
+        let redeemed = self.redeemed(state)?;
+        self.take_off(redeemed, state)
     }
 
     /// What PP pays.
@@ -34,14 +35,15 @@ impl LoanTerms<'_> {
         self.own_sign(self.prepaid(event, state))
     }
 
-    /// The state after PP, which keeps what was prepaid in Xa.
-    pub(crate) fn prepay(&self, event: &Event, state: &State) -> Option<State>
-        ensures { let paid = prepaid self.now event.now state.now in
-            result ≡ option_map (with_xa paid) (after_redemption self.now paid state.now) }
+    /// PP: what is prepaid is kept in Xa.
+    pub(crate) fn prepay(&self, event: &Event, state: &mut State) -> Option<()>
+        ensures { let paid = prepaid self.now event.now state.old in
+            option_map (λ _. state.new) result ≡ option_map (with_xa paid) (after_redemption self.now paid state.old) }
     {
-        let xa = self.prepaid(event, state);
-        let next = self.after_redemption(xa, state)?;
-        Some(State { xa, ..next })
+        let paid = self.prepaid(event, state);
+        self.take_off(paid, state)?;
+        state.xa = paid;
+        Some(())
     }
 
     /// N: what can be redeemed at most.
@@ -70,22 +72,23 @@ impl LoanTerms<'_> {
         event.value.min(self.redeemable(state))
     }
 
-    /// The state with what is left of the notional.
-    fn after_redemption(&self, amount: Fixed, state: &State) -> Option<State>
-        ensures { result ≡ after_redemption self.now amount state.now }
+    /// Takes an amount off the notional.
+    fn take_off(&self, amount: Fixed, state: &mut State) -> Option<()>
+        ensures { option_map (λ _. state.new) result ≡ after_redemption self.now amount state.old }
     {
         let nt = state.nt.sub(self.own_sign(amount))?;
-        Some(self.with_notional(nt, state))
+        self.set_notional(nt, state);
+        Some(())
     }
 
-    /// The state with a new notional, and where the base of interest is NT a new base.
-    pub(crate) fn with_notional(&self, nt: Fixed, state: &State) -> State
-        ensures { result ≡ with_notional self.now nt state.now }
+    /// Sets a new notional, and where the base of interest is NT a new base.
+    pub(crate) fn set_notional(&self, nt: Fixed, state: &mut State)
+        ensures { state.new ≡ with_notional self.now nt state.old }
     {
-        let ipcb = match self.interest_calculation_base() {
+        state.ipcb = match self.interest_calculation_base() {
             InterestCalculationBase::NT => nt,
             _ => state.ipcb,
         };
-        State { nt, ipcb, ..*state }
+        state.nt = nt;
     }
 }

@@ -1,5 +1,5 @@
 //! Resets of the rate of interest.
-ghost use Rattle.std.specs.Prelude.{◌≡◌};
+ghost use Rattle.std.specs.Prelude.{◌≡◌, option_map};
 ghost use Rattle.act_profile.specs.Loan.{after_reset, becomes_by_given, reset_rate};
 ghost use Rattle.act_profile.specs.States.{with_ipnr};
 ghost use Rattle.act_profile.specs.Step.{changed, state_after};
@@ -9,29 +9,29 @@ use act_model::{RateReset, State};
 use act_num::Fixed;
 
 impl LoanTerms<'_> {
-    /// The state after RR, by the value of the reset code.
-    pub(crate) fn reset(&self, value: Option<Fixed>, state: &State) -> Option<State>
-        ensures { result
-            ≡ state_after (becomes_by_given self.now.loan.rate_reset.market_object_code_of_rate_reset (after_reset self.now)) value state.now }
+    /// RR: the rate is reset, by the value of the reset code.
+    pub(crate) fn reset(&self, value: Option<Fixed>, state: &mut State) -> Option<()>
+        ensures { option_map (λ _. state.new) result
+            ≡ state_after (becomes_by_given self.now.loan.rate_reset.market_object_code_of_rate_reset (after_reset self.now)) value state.old }
     {
         self.loan.rate_reset.market_object_code_of_rate_reset?;
-        self.after_reset(value?, state)
+        self.reset_to(value?, state)
     }
 
-    /// The state after a reset to the rate that is observed.
-    fn after_reset(&self, observed: Fixed, state: &State) -> Option<State>
-        ensures { result ≡ after_reset self.now observed state.now }
+    /// Resets the rate to the one that is observed.
+    fn reset_to(&self, observed: Fixed, state: &mut State) -> Option<()>
+        ensures { option_map (λ _. state.new) result ≡ after_reset self.now observed state.old }
     {
-        let ipnr = reset_rate(&self.loan.rate_reset, observed, state.ipnr)?;
-        Some(State { ipnr, ..*state })
+        state.ipnr = reset_rate(&self.loan.rate_reset, observed, state.ipnr)?;
+        Some(())
     }
 
-    /// The state after RRF, which sets the rate that is given.
-    pub(crate) fn after_fixed_reset(&self, state: &State) -> Option<State>
-        ensures { result ≡ changed with_ipnr self.now.loan.rate_reset.next_reset_rate state.now }
+    /// RRF: the rate is the one that is given.
+    pub(crate) fn reset_as_given(&self, state: &mut State) -> Option<()>
+        ensures { option_map (λ _. state.new) result ≡ changed with_ipnr self.now.loan.rate_reset.next_reset_rate state.old }
     {
-        let ipnr = self.loan.rate_reset.next_reset_rate?;
-        Some(State { ipnr, ..*state })
+        state.ipnr = self.loan.rate_reset.next_reset_rate?;
+        Some(())
     }
 }
 

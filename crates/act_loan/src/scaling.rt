@@ -1,5 +1,5 @@
 //! Scaling of payments by an index.
-ghost use Rattle.std.specs.Prelude.{◌≡◌};
+ghost use Rattle.std.specs.Prelude.{◌≡◌, option_map};
 ghost use Rattle.act_profile.specs.Loan.{after_scaling, becomes_by_given, scaled};
 ghost use Rattle.act_profile.specs.Step.{state_after};
 
@@ -8,40 +8,34 @@ use act_model::{ScalingEffect, State};
 use act_num::Fixed;
 
 impl LoanTerms<'_> {
-    /// The state after SC, by the value of the scaling code.
-    pub(crate) fn scale(&self, value: Option<Fixed>, state: &State) -> Option<State>
-        ensures { result
-            ≡ state_after (becomes_by_given self.now.loan.scaling.market_object_code_of_scaling_index (after_scaling self.now)) value state.now }
+    /// SC: the multipliers follow the scaling index, by the value of its code.
+    pub(crate) fn scale(&self, value: Option<Fixed>, state: &mut State) -> Option<()>
+        ensures { option_map (λ _. state.new) result
+            ≡ state_after (becomes_by_given self.now.loan.scaling.market_object_code_of_scaling_index (after_scaling self.now)) value state.old }
     {
         self.loan.scaling.market_object_code_of_scaling_index?;
-        self.after_scaling(value?, state)
+        self.scale_by(value?, state)
     }
 
-    /// The state whose multipliers follow from the index that is observed.
-    fn after_scaling(&self, observed: Fixed, state: &State) -> Option<State>
-        ensures { result ≡ after_scaling self.now observed state.now }
+    /// Sets the multipliers that follow from the index that is observed.
+    fn scale_by(&self, observed: Fixed, state: &mut State) -> Option<()>
+        ensures { option_map (λ _. state.new) result ≡ after_scaling self.now observed state.old }
     {
         let first = self.loan.scaling.scaling_index_at_contract_deal_date?;
         let multiplier = observed.ratio(first)?;
-        Some(scaled(self.loan.scaling.scaling_effect, multiplier, state))
+        set_multipliers(self.loan.scaling.scaling_effect, multiplier, state);
+        Some(())
     }
 }
 
-/// The state with the multipliers that the effect names set.
-fn scaled(effect: ScalingEffect, multiplier: Fixed, state: &State) -> State
-    ensures { result ≡ scaled effect multiplier state.now }
+/// Sets the multipliers that the effect names.
+fn set_multipliers(effect: ScalingEffect, multiplier: Fixed, state: &mut State)
+    ensures { state.new ≡ scaled effect multiplier state.old }
 {
-    State {
-        isc: if effect.interest {
-            multiplier
-        } else {
-            state.isc
-        },
-        nsc: if effect.notional {
-            multiplier
-        } else {
-            state.nsc
-        },
-        ..*state
+    if effect.interest {
+        state.isc = multiplier;
+    }
+    if effect.notional {
+        state.nsc = multiplier;
     }
 }

@@ -41,11 +41,11 @@ impl LoanTerms<'_> {
         ensures { result ≡ started_state self.now plan.now state.now }
     {
         let first = self.accrues_from()?;
-        let next = self.exchanged(state);
-        let ipac = self.first_interest(Some(first), self.common.status_date, &next)?;
-        let accrued = State { ipac, ..next };
-        let prnxt = self.started_redemption_payment(plan, &accrued)?;
-        Some(State { prnxt, ..accrued })
+        let mut next = *state;
+        self.begin(&mut next);
+        next.ipac = self.first_interest(Some(first), self.common.status_date, &next)?;
+        next.prnxt = self.started_redemption_payment(plan, &next)?;
+        Some(next)
     }
 
     /// Prnxt of a started loan: of an annuity without a given payment the annuity payment at the status date.

@@ -1,6 +1,6 @@
 //! The start and the steps of a loan, whatever its kind.
 ghost use Rattle.std.specs.Prelude.{◌≡◌, [], Some, Ok};
-ghost use Rattle.act_kind.specs.Takes.{Takes};
+ghost use Rattle.act_kind.specs.Takes.{Takes, with_state};
 ghost use Rattle.act_profile.specs.Built.{CyclesLeadOn};
 ghost use Rattle.act_profile.specs.LoanPlan.{loan_plan};
 ghost use Rattle.act_profile.specs.LoanTerms.{loan_terms_of};
@@ -9,7 +9,7 @@ ghost use Rattle.act_profile.specs.Steps.{start_of, step_of};
 
 use crate::table::LoanTable;
 use crate::terms::LoanTerms;
-use act_kind::take_step;
+use act_kind::{advance, take_step};
 use act_model::{Event, EventType, Observed, Plan, State, Stop, Terms};
 use act_num::{Fixed, Steps};
 use std::sync::ledger::Ledger;
@@ -51,4 +51,26 @@ pub fn step_loan<O: Observed, L: Ledger>(
 {
     let table = LoanTable::new(loan, plan);
     take_step(terms, plan, &table, state, event, seen, steps)
+}
+
+/// Takes the step of an event of a loan, by its terms as a loan's, in place: the state becomes the one after the event,
+/// and what the event pays is answered, in one tick. Or it is answered why the run stops there, in no tick, and the state
+/// is of no use. It takes no memory.
+#[inline(always)]
+#[tactic(auto, using(crate::proofs::Contracts::periods_of))]
+pub fn advance_loan<O: Observed, L: Ledger>(
+    terms: &Terms,
+    loan: LoanTerms<'_>,
+    plan: &Plan,
+    state: &mut State,
+    event: &Event,
+    seen: &O,
+    steps: &mut Steps<L>,
+) -> Result<Fixed, Stop>
+    requires loan { loan_terms_of terms.now.common terms.now.kind ≡ Some loan }
+    requires plan { plan_of terms.now ≡ Ok plan.now }
+    ensures { Takes (with_state state.new result) (step_of terms.now plan.now (O.entries seen.now) [] state.old event.now) steps.old steps.new }
+{
+    let table = LoanTable::new(loan, plan);
+    advance(terms, plan, &table, state, event, seen, steps)
 }

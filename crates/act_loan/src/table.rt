@@ -1,7 +1,7 @@
 //! The table of steps of a loan.
 use crate::ending::maturity_payoff;
-use crate::fees::without_fee;
-use crate::interest::{interest_payoff, with_base_fixed, without_interest};
+use crate::fees::clear_fee;
+use crate::interest::{clear_interest, fix_base, interest_payoff};
 use crate::terms::LoanTerms;
 use act_kind::{Payment, Table};
 use act_model::{Event, EventType, Plan, State};
@@ -71,8 +71,8 @@ impl Table for LoanTable<'_> {
         }
     }
 
-    fn accrued(&self, event: &Event, state: &State) -> Option<State> {
-        self.terms.before_event(event.kind, event.calc, state)
+    fn accrue(&self, event: &Event, state: &mut State) -> Option<()> {
+        self.terms.accrue_before(event.kind, event.calc, state)
     }
 
     fn payoff(&self, event: &Event, value: Option<Fixed>, state: &State) -> Option<Fixed> {
@@ -90,22 +90,23 @@ impl Table for LoanTable<'_> {
         }
     }
 
-    fn state_after(&self, event: &Event, value: Option<Fixed>, state: &State) -> Option<State> {
+    fn change(&self, event: &Event, value: Option<Fixed>, state: &mut State) -> Option<()> {
         match event.kind {
-            EventType::IED => self.terms.after_exchange(event.calc, state),
-            EventType::PR => self.terms.redeem(state),
-            EventType::PP => self.terms.prepay(event, state),
-            EventType::FP => Some(without_fee(state)),
-            EventType::TD => Some(self.terms.terminated(state)),
-            EventType::IP => Some(without_interest(state)),
-            EventType::IPCI => self.terms.capitalize(state),
-            EventType::RRF => self.terms.after_fixed_reset(state),
-            EventType::RR => self.terms.reset(value, state),
-            EventType::PRF => self.terms.with_payment_fixed(self.plan, event.calc, state),
-            EventType::IPCB => Some(with_base_fixed(state)),
-            EventType::SC => self.terms.scale(value, state),
-            EventType::MD => Some(self.terms.repaid(state)),
-            _ => Some(*state),
+            EventType::IED => self.terms.exchange(event.calc, state)?,
+            EventType::PR => self.terms.redeem(state)?,
+            EventType::PP => self.terms.prepay(event, state)?,
+            EventType::FP => clear_fee(state),
+            EventType::TD => self.terms.terminate(state),
+            EventType::IP => clear_interest(state),
+            EventType::IPCI => self.terms.capitalize(state)?,
+            EventType::RRF => self.terms.reset_as_given(state)?,
+            EventType::RR => self.terms.reset(value, state)?,
+            EventType::PRF => self.terms.fix_payment(self.plan, event.calc, state)?,
+            EventType::IPCB => fix_base(state),
+            EventType::SC => self.terms.scale(value, state)?,
+            EventType::MD => self.terms.repay(state),
+            _ => {}
         }
+        Some(())
     }
 }

@@ -28,24 +28,24 @@ same_day (Some a) (Some b) e = ap Some ((Decides-int_eq a b).0 e)
 
 -- rests that are found equal
 pub same_rest : (a b : Rest)
-    → (option_eq int_eq a.md b.md && (option_eq int_eq a.xd b.xd && (int_eq a.ipnr2 b.ipnr2 && (int_eq a.ipac2 b.ipac2 && (int_eq a.nsc b.nsc && (int_eq a.isc b.isc && (int_eq a.prnxt b.prnxt && int_eq a.xa b.xa))))))) ≡ true
+    → (option_eq int_eq a.md b.md && option_eq int_eq a.xd b.xd && int_eq a.ipnr2 b.ipnr2 && int_eq a.ipac2 b.ipac2 && int_eq a.nsc b.nsc && int_eq a.isc b.isc && int_eq a.prnxt b.prnxt && int_eq a.xa b.xa) ≡ true
     → a ≡ b
 same_rest a b e =
-    let after_md = both _ _ e in
-    let after_xd = both _ _ after_md.1 in
-    let after_ipnr2 = both _ _ after_xd.1 in
-    let after_ipac2 = both _ _ after_ipnr2.1 in
-    let after_nsc = both _ _ after_ipac2.1 in
-    let after_isc = both _ _ after_nsc.1 in
-    let after_prnxt = both _ _ after_isc.1 in
-    let md : a.md ≡ b.md = same_day _ _ after_md.0 in
-    let xd : a.xd ≡ b.xd = same_day _ _ after_xd.0 in
-    let ipnr2 : a.ipnr2 ≡ b.ipnr2 = (Decides-int_eq _ _).0 after_ipnr2.0 in
-    let ipac2 : a.ipac2 ≡ b.ipac2 = (Decides-int_eq _ _).0 after_ipac2.0 in
-    let nsc : a.nsc ≡ b.nsc = (Decides-int_eq _ _).0 after_nsc.0 in
-    let isc : a.isc ≡ b.isc = (Decides-int_eq _ _).0 after_isc.0 in
-    let prnxt : a.prnxt ≡ b.prnxt = (Decides-int_eq _ _).0 after_prnxt.0 in
-    let xa : a.xa ≡ b.xa = (Decides-int_eq _ _).0 after_prnxt.1 in
+    let up_to_xa = both _ _ e in
+    let up_to_prnxt = both _ _ up_to_xa.0 in
+    let up_to_isc = both _ _ up_to_prnxt.0 in
+    let up_to_nsc = both _ _ up_to_isc.0 in
+    let up_to_ipac2 = both _ _ up_to_nsc.0 in
+    let up_to_ipnr2 = both _ _ up_to_ipac2.0 in
+    let up_to_xd = both _ _ up_to_ipnr2.0 in
+    let md : a.md ≡ b.md = same_day _ _ up_to_xd.0 in
+    let xd : a.xd ≡ b.xd = same_day _ _ up_to_xd.1 in
+    let ipnr2 : a.ipnr2 ≡ b.ipnr2 = (Decides-int_eq _ _).0 up_to_ipnr2.1 in
+    let ipac2 : a.ipac2 ≡ b.ipac2 = (Decides-int_eq _ _).0 up_to_ipac2.1 in
+    let nsc : a.nsc ≡ b.nsc = (Decides-int_eq _ _).0 up_to_nsc.1 in
+    let isc : a.isc ≡ b.isc = (Decides-int_eq _ _).0 up_to_isc.1 in
+    let prnxt : a.prnxt ≡ b.prnxt = (Decides-int_eq _ _).0 up_to_prnxt.1 in
+    let xa : a.xa ≡ b.xa = (Decides-int_eq _ _).0 up_to_xa.1 in
     let one : Rest = record { md = a.md; xd = a.xd; ipnr2 = a.ipnr2; ipac2 = a.ipac2; nsc = a.nsc; isc = a.isc; prnxt = a.prnxt; xa = a.xa } in
     let other : Rest = record { md = b.md; xd = b.xd; ipnr2 = b.ipnr2; ipac2 = b.ipac2; nsc = b.nsc; isc = b.isc; prnxt = b.prnxt; xa = b.xa } in
     let same : one ≡ other = simp (md, xd, ipnr2, ipac2, nsc, isc, prnxt, xa) refl in

@@ -1,4 +1,4 @@
--- Rows of a chunk, whose rests and bases stand apart. This profile's own.
+-- Rows of a chunk, whose rests, bases and longer numbers stand apart. This profile's own.
 use Rattle.std.specs.Prelude.{◌≡◌, ℕ, ◌<◌, ◌≤◌, pos, List, ◌∷◌, length, map, None, Some, if◌then◌else◌, get_or}
 use Rattle.std.specs.List.{All}
 use Rattle.act_model.specs.declared.chunk.Bases.{Bases}
@@ -7,7 +7,7 @@ use Rattle.act_model.specs.declared.chunk.Rest.{Rest}
 use Rattle.act_model.specs.declared.chunk.Short.{Short}
 use Rattle.act_model.specs.declared.chunk.Slim.{Slim}
 use Rattle.act_model.specs.declared.run.Row.{Row}
-use Rattle.act_model.specs.Run.{ArePrintedAlike, cells_of}
+use Rattle.act_model.specs.Run.{HaveSameCells, cells_of}
 
 -- the rest of a row
 abbrev pub rest_of : Row → Rest
@@ -97,14 +97,12 @@ full_numbers long slim = get_or (numbers_in slim.short ∷ long) slim.long no_nu
 abbrev pub full_row : List Rest → List Bases → List Numbers → Slim → Row
 full_row rests bases long slim = row_of (get_or rests slim.rest no_rest) (get_or bases slim.bases no_bases) (full_numbers long slim) slim
 
--- rows that are printed alike, whatever stands apart from them
-abbrev pub IsSlimAlike : Slim → Slim → Type 0
-IsSlimAlike one other =
-    (rests rests' : List Rest) (bases bases' : List Bases) (long long' : List Numbers)
-    → cells_of (full_row rests bases long one) ≡ cells_of (full_row rests' bases' long' other)
+-- rows that are printed alike, each with its longer numbers, whatever their rests and bases are
+abbrev pub IsSlimAlike : List Numbers → List Numbers → Slim → Slim → Type 0
+IsSlimAlike long long' one other =
+    (rests rests' : List Rest) (bases bases' : List Bases) → cells_of (full_row rests bases long one) ≡ cells_of (full_row rests' bases' long' other)
 
 -- and lists of them
-abbrev pub AreSlimsAlike : List Slim → List Slim → Type 0
-AreSlimsAlike ones others =
-    (rests rests' : List Rest) (bases bases' : List Bases) (long long' : List Numbers)
-    → ArePrintedAlike (map (full_row rests bases long) ones) (map (full_row rests' bases' long') others)
+abbrev pub AreSlimsAlike : List Numbers → List Numbers → List Slim → List Slim → Type 0
+AreSlimsAlike long long' ones others =
+    (rests rests' : List Rest) (bases bases' : List Bases) → HaveSameCells (map (full_row rests bases long) ones) (map (full_row rests' bases' long') others)

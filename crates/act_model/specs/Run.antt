@@ -7,7 +7,7 @@ use Rattle.act_model.specs.declared.event.EventType.TheVariants.{TD, MD}
 use Rattle.act_model.specs.declared.run.Close.{Close}
 use Rattle.act_model.specs.declared.run.Row.{Row}
 
--- what is printed of a row: its day, type, currency and payoff, and of the state the notional, the rate and the interest accrued
+-- what is printed of a row: day, type, currency and payoff, and of the state the notional, the rate and the interest accrued
 pub record Cells : Type 0 where
   pub day : ℤ
   pub kind : EventType
@@ -30,8 +30,8 @@ cells_of row = record {
 }
 
 -- rows of which the same is printed
-abbrev pub ArePrintedAlike : List Row → List Row → Type 0
-ArePrintedAlike ones others = map cells_of ones ≡ map cells_of others
+abbrev pub HaveSameCells : List Row → List Row → Type 0
+HaveSameCells ones others = map cells_of ones ≡ map cells_of others
 
 -- the rows of a contract, and why there are no more
 pub record Stream : Type 0 where

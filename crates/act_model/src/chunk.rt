@@ -1,9 +1,8 @@
 //! A chunk of rows.
-ghost use Rattle.std.specs.Prelude.{◌≡◌, ◌⊎◌, [], ◌∷◌, ◌++◌, ◌<◌, ◌≤◌, length, take, true, Some, IfOk, IfSome, OnErr, OnOk, get_or, map, option_map, slice_get};
-ghost use Rattle.act_model.specs.Chunk.{AreSlimsAlike, IsSlimAlike, bases_of, full_numbers, no_numbers, numbers_in, numbers_of, rest_of, row_of};
-ghost use Rattle.act_model.specs.Run.{ArePrintedAlike};
-ghost use Rattle.act_model.specs.declared.chunk.Bases.{Bases as BasesOfRow};
-ghost use Rattle.act_model.specs.declared.chunk.Rest.{Rest as RestOfRow};
+ghost use Rattle.std.specs.Prelude.{◌≡◌, ◌⊎◌, [], ◌∷◌, ◌++◌, ◌<◌, ◌≤◌, length, take, true, Some, IfOk, IfSome, OnErr, OnOk, get_or, slice_get};
+ghost use Rattle.std.specs.List.{All};
+ghost use Rattle.act_model.specs.Chunk.{AreSlimsAlike, IsSlimAlike, bases_of, has_numbers, full_numbers, no_numbers, numbers_in, numbers_of, rest_of, row_of};
+ghost use Rattle.act_model.specs.Run.{HaveSameCells};
 
 use crate::event::EventType;
 use crate::run::Row;
@@ -15,7 +14,7 @@ use std::marker::Model;
 use std::slice;
 
 /// What of a row's state mostly stays from row to row.
-#[derive(Clone, Copy, PartialEq, Eq)]
+#[derive(Clone, Copy)]
 struct Rest {
     md: Option<Day>,
     xd: Option<Day>,
@@ -44,10 +43,26 @@ impl Rest {
             xa: state.xa,
         }
     }
+
+    /// Whether it is that of a row. All is compared, without a branch for each part.
+    #[inline(always)]
+    fn is_of(&self, row: &Row) -> bool
+        ensures { result ≡ true → self.now ≡ rest_of row.now }
+    {
+        let state = &row.state;
+        (self.md == state.md)
+            & (self.xd == state.xd)
+            & (self.ipnr2 == state.ipnr2)
+            & (self.ipac2 == state.ipac2)
+            & (self.nsc == state.nsc)
+            & (self.isc == state.isc)
+            & (self.prnxt == state.prnxt)
+            & (self.xa == state.xa)
+    }
 }
 
 /// The fee accrued and the base of interest of a row's state, which stay where there is no fee and no such base.
-#[derive(Clone, Copy, PartialEq, Eq)]
+#[derive(Clone, Copy)]
 struct Bases {
     feac: Fixed,
     ipcb: Fixed,
@@ -63,10 +78,18 @@ impl Bases {
             ipcb: row.state.ipcb,
         }
     }
+
+    /// Whether they are those of a row.
+    #[inline(always)]
+    fn are_of(&self, row: &Row) -> bool
+        ensures { result ≡ true → self.now ≡ bases_of row.now }
+    {
+        (self.feac == row.state.feac) & (self.ipcb == row.state.ipcb)
+    }
 }
 
 /// The numbers of a row that are printed.
-#[derive(Clone, Copy)]
+#[derive(Clone, Copy, PartialEq, Eq)]
 struct Numbers {
     payoff: Fixed,
     nt: Fixed,
@@ -106,15 +129,15 @@ impl Short {
         ipac: 0,
     };
 
-    /// These numbers, where each fits.
-    fn of(numbers: &Numbers) -> Option<Short>
-        ensures { IfSome result (λ short. numbers_in short ≡ numbers.now) }
+    /// Those of a row, where each fits.
+    fn of(row: &Row) -> Option<Short>
+        ensures { IfSome result (λ short. numbers_in short ≡ numbers_of row.now) }
     {
         Some(Short {
-            payoff: shortened(numbers.payoff)?,
-            nt: shortened(numbers.nt)?,
-            ipnr: shortened(numbers.ipnr)?,
-            ipac: shortened(numbers.ipac)?,
+            payoff: shortened(row.payoff)?,
+            nt: shortened(row.state.nt)?,
+            ipnr: shortened(row.state.ipnr)?,
+            ipac: shortened(row.state.ipac)?,
         })
     }
 
@@ -138,7 +161,7 @@ impl Short {
 struct Slim {
     day: Day,
     currency: u32,
-    /// The day of the state, where it has one.
+    /// The state's day, or the row's where `has_sd` is false.
     sd: Day,
     has_sd: bool,
     kind: EventType,
@@ -272,9 +295,9 @@ impl Chunk {
         ensures added { OnOk result (self.new ≡ self.old ++ row.now ∷ []) }
         ensures unchanged { OnErr result (self.new ≡ self.old) }
     {
-        let rest = push_rest(&mut self.rests, &Rest::of(row))?;
-        let bases = push_bases(&mut self.bases, &Bases::of(row))?;
-        let placed = place_numbers(&mut self.long, &Numbers::of(row))?;
+        let rest = push_rest(&mut self.rests, row)?;
+        let bases = push_bases(&mut self.bases, row)?;
+        let placed = place_numbers(&mut self.long, row)?;
         let slim = Slim::of(row, rest, bases, placed);
         self.rows.reserve(1)?;
         self.rows.push_reserved(slim);
@@ -307,37 +330,59 @@ impl Chunk {
         requires here { most ≤ length self.now }
         requires there { most ≤ length other.now }
         ensures most { result ≤ most }
-        ensures alike { ArePrintedAlike (take result self.now) (take result other.now) }
+        ensures alike { HaveSameCells (take result self.now) (take result other.now) }
     {
-        count_alike(&self.rows[..most], &other.rows[..most])
+        count_alike(
+            &self.rows[..most],
+            &self.long,
+            &other.rows[..most],
+            &other.long,
+        )
     }
 }
 
-/// How many rows at the beginning of two lists of as many are found to be printed alike.
-fn count_alike(one: &[Slim], other: &[Slim]) -> usize
-    requires { length one.now ≡ length other.now }
+/// How many rows at the beginning of two lists of as many are found to be printed alike. The longer numbers of each stand
+/// beside it.
+fn count_alike(one: &[Slim], long: &[Numbers], other: &[Slim], other_long: &[Numbers]) -> usize
+    requires count { length one.now ≡ length other.now }
+    requires long { All (has_numbers (length long.now)) one.now }
+    requires other_long { All (has_numbers (length other_long.now)) other.now }
     ensures most { result ≤ length one.now }
-    ensures alike { AreSlimsAlike (take result one.now) (take result other.now) }
+    ensures alike { AreSlimsAlike long.now other_long.now (take result one.now) (take result other.now) }
 {
     for place in 0..one.len() {
-        if !are_alike(&one[place], &other[place]) {
+        if !are_alike(&one[place], long, &other[place], other_long) {
             return place;
         }
     }
     one.len()
 }
 
-/// Whether two rows whose numbers fit 64 bits are printed alike.
+/// Whether two rows are printed alike. All is compared, without a branch for each part.
 #[inline(always)]
-fn are_alike(one: &Slim, other: &Slim) -> bool
-    ensures { result ≡ true → IsSlimAlike one.now other.now }
+fn are_alike(one: &Slim, long: &[Numbers], other: &Slim, other_long: &[Numbers]) -> bool
+    requires long { one.now.long ≤ length long.now }
+    requires other_long { other.now.long ≤ length other_long.now }
+    ensures { result ≡ true → IsSlimAlike long.now other_long.now one.now other.now }
 {
-    (one.long == 0)
-        & (other.long == 0)
-        & (one.short == other.short)
-        & (one.day == other.day)
+    (one.day == other.day)
         & (one.kind == other.kind)
         & (one.currency == other.currency)
+        & have_same_numbers(one, long, other, other_long)
+}
+
+/// Whether two rows have the same numbers, which mostly stand in them.
+#[inline(always)]
+fn have_same_numbers(one: &Slim, long: &[Numbers], other: &Slim, other_long: &[Numbers]) -> bool
+    requires long { one.now.long ≤ length long.now }
+    requires other_long { other.now.long ≤ length other_long.now }
+    ensures { result ≡ true → full_numbers long.now one.now ≡ full_numbers other_long.now other.now }
+{
+    if (one.long == 0) & (other.long == 0) {
+        one.short == other.short
+    } else {
+        numbers_at(long, one) == numbers_at(other_long, other)
+    }
 }
 
 /// Numbers that fit 64 bits, or else the place of the longer ones, counted from 1.
@@ -347,18 +392,18 @@ struct Placed {
     short: Short,
 }
 
-/// Puts numbers where they belong: short ones in a row, and longer ones in a list. Where memory runs out, the list is as
-/// before.
-fn place_numbers(list: &mut Vec<Numbers>, numbers: &Numbers) -> Result<Placed, NoMemory>
-    ensures there { IfOk result (λ placed. get_or (numbers_in placed.short ∷ list.new.items) placed.long no_numbers ≡ numbers.now) }
+/// Puts the numbers of a row where they belong: short ones in the row, and longer ones in a list. Where memory runs out, the
+/// list is as before.
+fn place_numbers(list: &mut Vec<Numbers>, row: &Row) -> Result<Placed, NoMemory>
+    ensures there { IfOk result (λ placed. get_or (numbers_in placed.short ∷ list.new.items) placed.long no_numbers ≡ numbers_of row.now) }
     ensures within { IfOk result (λ placed. placed.long ≤ length list.new.items) }
-    ensures others { (list.new.items ≡ list.old.items) ⊎ (list.new.items ≡ list.old.items ++ numbers.now ∷ []) }
+    ensures others { (list.new.items ≡ list.old.items) ⊎ (list.new.items ≡ list.old.items ++ numbers_of row.now ∷ []) }
 {
-    if let Some(short) = Short::of(numbers) {
+    if let Some(short) = Short::of(row) {
         return Ok(Placed { long: 0, short });
     }
     let long = numbered(list.len() + 1)?;
-    list.extend_from_slice(slice::from_ref(numbers))?;
+    list.extend_from_slice(slice::from_ref(&Numbers::of(row)))?;
     Ok(Placed {
         long,
         short: Short::NONE,
@@ -395,31 +440,31 @@ fn lengthened(units: i64) -> Fixed
     }
 }
 
-/// The place of a rest, which is added unless it is the last one. Where memory runs out, there are those as before.
-fn push_rest(rests: &mut Vec<Rest>, rest: &Rest) -> Result<u32, NoMemory>
-    ensures there { IfOk result (λ place. slice_get rests.new.items place ≡ Some rest.now) }
-    ensures others { (rests.new.items ≡ rests.old.items) ⊎ (rests.new.items ≡ rests.old.items ++ rest.now ∷ []) }
+/// The place of a row's rest, which is added unless it is the last one. Where memory runs out, there are those as before.
+fn push_rest(rests: &mut Vec<Rest>, row: &Row) -> Result<u32, NoMemory>
+    ensures there { IfOk result (λ place. slice_get rests.new.items place ≡ Some (rest_of row.now)) }
+    ensures others { (rests.new.items ≡ rests.old.items) ⊎ (rests.new.items ≡ rests.old.items ++ rest_of row.now ∷ []) }
 {
     let count = rests.len();
-    if count > 0 && rests[count - 1] == *rest {
+    if count > 0 && rests[count - 1].is_of(row) {
         return numbered(count - 1);
     }
     let place = numbered(count)?;
-    rests.extend_from_slice(slice::from_ref(rest))?;
+    rests.extend_from_slice(slice::from_ref(&Rest::of(row)))?;
     Ok(place)
 }
 
-/// The place of bases, which are added unless they are the last ones. Where memory runs out, there are those as before.
-fn push_bases(list: &mut Vec<Bases>, bases: &Bases) -> Result<u32, NoMemory>
-    ensures there { IfOk result (λ place. slice_get list.new.items place ≡ Some bases.now) }
-    ensures others { (list.new.items ≡ list.old.items) ⊎ (list.new.items ≡ list.old.items ++ bases.now ∷ []) }
+/// The place of a row's bases, which are added unless they are the last ones. Where memory runs out, there are those as before.
+fn push_bases(list: &mut Vec<Bases>, row: &Row) -> Result<u32, NoMemory>
+    ensures there { IfOk result (λ place. slice_get list.new.items place ≡ Some (bases_of row.now)) }
+    ensures others { (list.new.items ≡ list.old.items) ⊎ (list.new.items ≡ list.old.items ++ bases_of row.now ∷ []) }
 {
     let count = list.len();
-    if count > 0 && list[count - 1] == *bases {
+    if count > 0 && list[count - 1].are_of(row) {
         return numbered(count - 1);
     }
     let place = numbered(count)?;
-    list.extend_from_slice(slice::from_ref(bases))?;
+    list.extend_from_slice(slice::from_ref(&Bases::of(row)))?;
     Ok(place)
 }
 

@@ -1,8 +1,8 @@
 //! The rows of a run.
-ghost use Rattle.std.specs.Prelude.{◌≡◌, ◌≤◌, ◌<◌, ◌++◌, [], ◌∷◌, Some, length, map, option_map, take, slice_get, min, ◌-◌, ◌/◌, ◌*◌, ◌+◌, IfErr, IfOk, OnOk};
+ghost use Rattle.std.specs.Prelude.{◌≡◌, ◌≤◌, ◌<◌, ◌++◌, [], ◌∷◌, Some, length, map, take, slice_get, min, ◌-◌, ◌/◌, ◌*◌, ◌+◌, IfErr, IfOk, OnOk};
 ghost use Rattle.act_model.specs.Rows.{AreChunks, next_rows, rows_of};
 ghost use Rattle.std.specs.Arc.{arc_value};
-ghost use Rattle.act_model.specs.Run.{ArePrintedAlike};
+ghost use Rattle.act_model.specs.Run.{HaveSameCells};
 
 use crate::chunk::Chunk;
 use crate::run::Row;
@@ -107,7 +107,7 @@ impl Rows {
         ensures most { result ≤ most }
         ensures here { result ≤ length self.now }
         ensures there { result ≤ length other.now }
-        ensures alike { ArePrintedAlike (take result self.now) (take result other.now) }
+        ensures alike { HaveSameCells (take result self.now) (take result other.now) }
     {
         let limit = most.min(self.count()).min(other.count());
         let mut alike = 0;
@@ -129,8 +129,8 @@ impl Rows {
         requires here { end ≤ length self.now }
         requires there { end ≤ length other.now }
         ensures few { result ≤ min 64 (end - begin) }
-        ensures alike { ArePrintedAlike (take begin self.now) (take begin other.now)
-            → ArePrintedAlike (take (begin + result) self.now) (take (begin + result) other.now) }
+        ensures alike { HaveSameCells (take begin self.now) (take begin other.now)
+            → HaveSameCells (take (begin + result) self.now) (take (begin + result) other.now) }
     {
         let chunks = begin / CHUNK;
         let here = behind(&self.full, &self.last, chunks);

@@ -4,6 +4,7 @@ pub mod Halves
 pub mod Limits
 pub mod Nearest
 pub mod Padded
+pub mod Pairs
 pub mod Products
 pub mod ReadBack
 pub mod Reading

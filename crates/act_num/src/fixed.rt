@@ -1,5 +1,5 @@
 //! Amounts, rates and prices.
-ghost use Rattle.std.specs.Prelude.{◌≡◌, ◌≤◌, ◌*◌, ℤ, pos, ◌+ℤ◌, ◌-ℤ◌, ◌*ℤ◌, ◌<ℤ◌, ◌≤ℤ◌, neg_ℤ, unsigned_abs, IfSome, IsTrue, Some};
+ghost use Rattle.std.specs.Prelude.{◌≡◌, ◌≤◌, ◌*◌, ◌^◌, ℤ, pos, ◌+ℤ◌, ◌-ℤ◌, ◌*ℤ◌, ◌<ℤ◌, ◌≤ℤ◌, neg_ℤ, unsigned_abs, IfSome, IsTrue, Some};
 ghost use Rattle.std.specs.Int.{int_max, int_min};
 ghost use Rattle.act_num.specs.Number.{InRange, largest, number_in_range, one, rnd, add_of, sub_of, mul_of, mul_frac_of, ratio_of, clip_of};
 
@@ -13,12 +13,10 @@ pub(crate) const ONE_IN_UNITS: i128 = 1_000_000_000;
 /// The most units of a number.
 pub(crate) const LARGEST: u128 = (1 << 127) - 1;
 
-/// The first numbers past 31, 63 and 95 bits.
-const PAST_31: u128 = 1 << 31;
+/// The first numbers past 31 and 95 bits.
+const PAST_31: i128 = 1 << 31;
 
-const PAST_63: u128 = 1 << 63;
-
-const PAST_95: u128 = 1 << 95;
+const PAST_95: i128 = 1 << 95;
 
 /// A number in whole units of 10^-9, from `-(2^127 - 1)` to `2^127 - 1` of them.
 #[derive(Clone, Copy, PartialEq, Eq, PartialOrd, Ord)]
@@ -78,8 +76,20 @@ impl Fixed {
         Fixed::from_units(self.units.checked_sub(b.units)?)
     }
 
-    /// The product, rounded once, or None where the product of the units is out of range.
+    /// The product, rounded once, or None where the product of the units is out of range. Multipliers, which stand on the left,
+    /// are mostly 1.
     pub fn mul(self, b: Fixed) -> Option<Fixed>
+        ensures { result ≡ mul_of self b }
+    {
+        if self.units == ONE_IN_UNITS && is_word(b.units) {
+            return Some(b);
+        }
+        self.rounded_product(b)
+    }
+
+    /// The product, as `mul` answers it, of any two numbers.
+    #[inline(never)]
+    fn rounded_product(self, b: Fixed) -> Option<Fixed>
         ensures { result ≡ mul_of self b }
     {
         Some(by_ones(product(self.units, b.units)?, 1))
@@ -93,7 +103,7 @@ impl Fixed {
         requires den_in { den ≤ℤ pos 133_590 }
         ensures { result ≡ mul_frac_of self b num (unsigned_abs den) }
     {
-        let product = product(product(self.units, b.units)?, i128::from(num))?;
+        let product = times(product(self.units, b.units)?, num)?;
         Some(by_ones(product, den as u64))
     }
 
@@ -188,25 +198,18 @@ fn by_ones(units: i128, den: u64) -> Fixed
     }
 }
 
-/// The product, or None where it is out of range.
+/// The product, or None where it is out of range. Words are multiplied as such.
 pub(crate) fn product(a: i128, b: i128) -> Option<i128>
     ensures value { result ≡ number_in_range (a *ℤ b) }
     ensures in_range { IfSome result InRange }
 {
-    if are_small(a, b) {
+    if is_word(a) && is_word(b) {
+        return Some(small_product(i128::from(a as i64), i128::from(b as i64)));
+    }
+    if -PAST_95 <= a && a < PAST_95 && -PAST_31 <= b && b < PAST_31 {
         return Some(small_product(a, b));
     }
     in_range(a.checked_mul(b)?)
-}
-
-/// Whether two numbers have so few bits that their product is in range.
-#[inline]
-fn are_small(a: i128, b: i128) -> bool
-    ensures { IsTrue result → unsigned_abs a * unsigned_abs b ≤ largest }
-{
-    let a = a.unsigned_abs();
-    let b = b.unsigned_abs();
-    (a < PAST_63 && b < PAST_63) || (a < PAST_95 && b < PAST_31)
 }
 
 /// The product of two numbers for which it is in range.
@@ -217,6 +220,29 @@ fn small_product(a: i128, b: i128) -> i128
     ensures in_range { InRange result }
 {
     a * b
+}
+
+/// The product with a count, or None where it is out of range. A short count is multiplied as a word.
+#[inline]
+fn times(a: i128, count: i64) -> Option<i128>
+    requires { pos 0 ≤ℤ count }
+    ensures value { result ≡ number_in_range (a *ℤ count) }
+    ensures in_range { IfSome result InRange }
+{
+    let count = i128::from(count);
+    if -PAST_95 <= a && a < PAST_95 && count < PAST_31 {
+        return Some(a * i128::from(count as u32));
+    }
+    in_range(a.checked_mul(count)?)
+}
+
+/// Whether the number fits into a word of 64 bits.
+#[inline]
+fn is_word(number: i128) -> bool
+    ensures low { IsTrue result → neg_ℤ (pos (2 ^ 63)) ≤ℤ number }
+    ensures high { IsTrue result → number <ℤ pos (2 ^ 63) }
+{
+    i128::from(i64::MIN) <= number && number <= i128::from(i64::MAX)
 }
 
 /// The sum, or None where it is out of range.

@@ -1,5 +1,5 @@
 //! The amounts of exercise.
-ghost use Rattle.std.specs.Prelude.{◌≡◌, pos};
+ghost use Rattle.std.specs.Prelude.{◌≡◌, pos, option_map};
 ghost use Rattle.act_profile.specs.Exercise.{excess, exercised, option_amount};
 ghost use Rattle.act_profile.specs.Formula.{plus};
 ghost use Rattle.act_profile.specs.States.{with_xa};
@@ -35,24 +35,18 @@ fn excess(a: Fixed, b: Fixed) -> Option<Fixed>
     Some(a.sub(b)?.max(Fixed::ZERO))
 }
 
-/// The state after an exercise on a day, or None where its amount is undefined.
-pub(crate) fn exercised(day: Day, amount: Option<Fixed>, state: &State) -> Option<State>
-    ensures { result ≡ changed (exercised day) amount state.now }
+/// Makes the state the one after an exercise on a day, or answers None where its amount is undefined.
+pub(crate) fn exercise(day: Day, amount: Option<Fixed>, state: &mut State) -> Option<()>
+    ensures { option_map (λ _. state.new) result ≡ changed (exercised day) amount state.old }
 {
-    let xa = amount?;
-    Some(State {
-        xa,
-        xd: Some(day),
-        ..*state
-    })
+    state.xa = amount?;
+    state.xd = Some(day);
+    Some(())
 }
 
-/// The state after the settlement: nothing is owed any more.
-pub(crate) fn settled(state: &State) -> State
-    ensures { result ≡ with_xa (pos 0) state.now }
+/// Makes the state the one after the settlement: nothing is owed any more.
+pub(crate) fn settle(state: &mut State)
+    ensures { state.new ≡ with_xa (pos 0) state.old }
 {
-    State {
-        xa: Fixed::ZERO,
-        ..*state
-    }
+    state.xa = Fixed::ZERO;
 }

@@ -8,8 +8,8 @@ ghost use Rattle.act_model.specs.declared.terms.Optns.{Optns};
 ghost use Rattle.act_profile.specs.Exercise.{future_line, option_line};
 ghost use Rattle.act_profile.specs.Step.{amount_of};
 
-use crate::amounts::{exercised, option_amount, settled};
-use act_kind::{Payment, Table, passed, signed, trade_payoff};
+use crate::amounts::{exercise, option_amount, settle};
+use act_kind::{Payment, Table, pass, signed, trade_payoff};
 use act_model::{Common, Event, EventType, Futur, Optns, State};
 use act_num::Fixed;
 use std::marker::Model;
@@ -60,19 +60,23 @@ impl Table for OptionTable<'_> {
         }
     }
 
-    fn accrued(&self, event: &Event, state: &State) -> Option<State> {
-        Some(passed(event.kind, event.calc, state))
+    fn accrue(&self, event: &Event, state: &mut State) -> Option<()> {
+        pass(event.kind, event.calc, state);
+        Some(())
     }
 
     fn payoff(&self, event: &Event, _value: Option<Fixed>, state: &State) -> Option<Fixed> {
         payoff(self.common, event.kind, state)
     }
 
-    fn state_after(&self, event: &Event, value: Option<Fixed>, state: &State) -> Option<State> {
+    fn change(&self, event: &Event, value: Option<Fixed>, state: &mut State) -> Option<()> {
         match event.kind {
-            EventType::XD => exercised(event.day, option_amount(self.optns, value?), state),
-            EventType::STD => Some(settled(state)),
-            _ => Some(*state),
+            EventType::XD => exercise(event.day, option_amount(self.optns, value?), state),
+            EventType::STD => {
+                settle(state);
+                Some(())
+            }
+            _ => Some(()),
         }
     }
 }
@@ -123,19 +127,23 @@ impl Table for FutureTable<'_> {
         }
     }
 
-    fn accrued(&self, event: &Event, state: &State) -> Option<State> {
-        Some(passed(event.kind, event.calc, state))
+    fn accrue(&self, event: &Event, state: &mut State) -> Option<()> {
+        pass(event.kind, event.calc, state);
+        Some(())
     }
 
     fn payoff(&self, event: &Event, _value: Option<Fixed>, state: &State) -> Option<Fixed> {
         payoff(self.common, event.kind, state)
     }
 
-    fn state_after(&self, event: &Event, value: Option<Fixed>, state: &State) -> Option<State> {
+    fn change(&self, event: &Event, value: Option<Fixed>, state: &mut State) -> Option<()> {
         match event.kind {
-            EventType::XD => exercised(event.day, value?.sub(self.futur.futures_price), state),
-            EventType::STD => Some(settled(state)),
-            _ => Some(*state),
+            EventType::XD => exercise(event.day, value?.sub(self.futur.futures_price), state),
+            EventType::STD => {
+                settle(state);
+                Some(())
+            }
+            _ => Some(()),
         }
     }
 }

@@ -8,6 +8,7 @@ use Rattle.act_model.specs.declared.run.Close.TheVariants.{End}
 use Rattle.act_model.specs.declared.run.Row.{Row}
 use Rattle.act_model.specs.declared.run.Stop.{Stop}
 use Rattle.act_model.specs.declared.state.State.{State}
+use Rattle.act_kind.specs.Takes.{with_state}
 use Rattle.act_profile.specs.Outcomes.{map_ok}
 use Rattle.act_profile.specs.Run.{close_of, row_of, rows_from, stopped_at_once, with_row}
 use Rattle.act_model.proofs.Lists.{next_of}
@@ -28,6 +29,15 @@ pub record HasTaken (step : Step) (currency : Event → ℕ) (before : List Row)
 -- the row of an event, or its stop
 abbrev pub row_on : Step → (Event → ℕ) → State → Event → Result Row Stop
 row_on step currency s event = map_ok (row_of event (currency event)) (step s event)
+
+-- what a step in place answers makes the row of the event, with the state that is left; or its stop
+pub made_row : (step : Step) (currency : Event → ℕ) (s : State) (event : Event) (next : State) (taken : Result ℤ Stop) (payoff : ℤ) →
+    with_state next taken ≡ step s event → taken ≡ Ok payoff → row_on step currency s event ≡ Ok (row_of event (currency event) (payoff, next))
+made_row step currency s event next taken payoff is paid = ap (map_ok (row_of event (currency event))) (sym is ∙ ap (with_state next) paid)
+
+pub made_stop : (step : Step) (currency : Event → ℕ) (s : State) (event : Event) (next : State) (taken : Result ℤ Stop) (stop : Stop) →
+    with_state next taken ≡ step s event → taken ≡ Err stop → row_on step currency s event ≡ Err stop
+made_stop step currency s event next taken stop is stopped = ap (map_ok (row_of event (currency event))) (sym is ∙ ap (with_state next) stopped)
 
 pub rows_of_cons : (step : Step) (currency : Event → ℕ) (s : State) (event : Event) (events : List Event) →
     rows_from step currency s (event ∷ events) ≡ taken_rows event (currency event) (λ next. rows_from step currency next events) (step s event)

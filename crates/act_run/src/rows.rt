@@ -1,17 +1,15 @@
 //! The rows of events.
 ghost use Rattle.std.specs.Prelude.{◌≡◌, ◌+◌, ◌≤◌, length, map, take, Ok, IfOk};
 ghost use Rattle.std.specs.Arc.{arc_value};
-ghost use Rattle.act_kind.specs.Takes.{Takes};
 ghost use Rattle.act_profile.specs.Built.{IsBuilt};
-ghost use Rattle.act_profile.specs.Outcomes.{map_ok};
 ghost use Rattle.act_profile.specs.Plan.{plan_of};
 ghost use Rattle.act_profile.specs.Run.{close_of, row_of, rows_from, stopped_at_once};
 ghost use Rattle.act_profile.specs.Steps.{currency_of, step_of};
 ghost use Rattle.act_run.specs.Resuming.{state_behind, with_rows};
 
-use act_contract::{currency_of, step};
+use act_contract::{advance, currency_of};
 use act_model::{Close, Event, Observed, Plan, Row, Rows, Run, State, Stop, Terms};
-use act_num::{NoMemory, Steps};
+use act_num::{Fixed, NoMemory, Steps};
 use std::alloc::Global;
 use std::sync::Arc;
 use std::sync::ledger::Ledger;
@@ -64,11 +62,8 @@ pub(crate) fn rows_behind<O: Observed, L: Ledger>(
 {
     let mut state = first;
     'events: for event in events {
-        match next_row(terms, plan, &state, event, children, seen, steps) {
-            Ok(row) => {
-                state = row.state;
-                rows.push(&row)?;
-            }
+        match advance(terms, plan, &mut state, event, children, seen, steps) {
+            Ok(payoff) => rows.push(&row_of(terms, children, event, payoff, &state))?,
             Err(stop) => {
                 let close = close_of(stop);
                 return Ok(Run { rows, close });
@@ -91,30 +86,23 @@ pub(crate) fn stopped_at_once(alloc: Global, stop: Stop) -> Run
     }
 }
 
-/// The row of an event, or why the run stops there. It ticks once for a row, and else not at all.
-fn next_row<O: Observed, L: Ledger>(
+/// The row of an event, by what it pays and the state after it.
+#[inline(always)]
+fn row_of(
     terms: &Terms,
-    plan: &Plan,
-    state: &State,
-    event: &Event,
     children: &[Arc<Run, Global>],
-    seen: &O,
-    steps: &mut Steps<L>,
-) -> Result<Row, Stop>
-    requires built { IsBuilt terms.now.kind }
-    requires plan { plan_of terms.now ≡ Ok plan.now }
-    ensures { Takes result (map_ok (row_of event.now (currency_of terms.now (map arc_value children.now) event.now))
-        (step_of terms.now plan.now (O.entries seen.now) (map arc_value children.now) state.now event.now)) steps.old steps.new }
+    event: &Event,
+    payoff: Fixed,
+    state: &State,
+) -> Row
+    ensures { result ≡ row_of event.now (currency_of terms.now (map arc_value children.now) event.now) (payoff, state.now) }
 {
-    match step(terms, plan, state, event, children, seen, steps) {
-        Ok((payoff, next)) => Ok(Row {
-            day: event.day,
-            kind: event.kind,
-            currency: currency_of(terms, children, event),
-            payoff,
-            state: next,
-        }),
-        Err(stop) => Err(stop),
+    Row {
+        day: event.day,
+        kind: event.kind,
+        currency: currency_of(terms, children, event),
+        payoff,
+        state: *state,
     }
 }
 

@@ -17,7 +17,8 @@ use Rattle.act_profile.specs.Legs.{PlacedRow, earlier_like, is_netted_with, plac
 use Rattle.act_profile.specs.Order.{is_type}
 use Rattle.act_swap.proofs.Walks.{next_at}
 use Rattle.act_swap.specs.Children.{AreInDayOrder}
-use Rattle.act_swap.specs.Netting.{earlier_rows, is_like, is_taken, partner_place}
+use Rattle.act_swap.specs.declared.netting.Starts.{Starts}
+use Rattle.act_swap.specs.Netting.{AreBefore, earlier_rows, is_like, is_taken, partner_place}
 
 -- ---- lists
 
@@ -139,21 +140,54 @@ module _ (day : ℤ) (rows : List Row) (place : ℕ) (row : Row) (within : place
 pub all_earlier : (day : ℤ) (rows : List Row) (place : ℕ) → place ≤ prefix_len (is_earlier day) rows → length rows ≤ place → length rows ≡ prefix_len (is_earlier day) rows
 all_earlier day rows place within le = omega (arith, prefix_len-le-length (is_earlier day) rows)
 
--- ---- a place that grows with the days of rows
+-- a row of a later day than the one before it is the first of its day
+pub begins_day : (rows : List Row) (place : ℕ) (row before : Row) → AreInDayOrder rows → slice_get rows place ≡ Some row → 1 ≤ place → slice_get rows (place - 1) ≡ Some before → ¬ (before.day ≡ row.day) → place ≡ prefix_len (is_earlier row.day) rows
+begins_day rows place row before order here some there differs =
+    let k = prefix_len (is_earlier row.day) rows in
+    let le : k ≤ place = earlier_within row rows place here in
+    let is = get_or_from_slice_get rows place row row here in
+    let was = get_or_from_slice_get rows (place - 1) before row there in
+    let within = slice_get_within rows place row here in
+    let up : before.day ≤ℤ row.day = rw (was, is) at (order.ascending (place - 1) place row (omega (arith, some)) within) in
+    elim (cases_Bool (nat_lt k place)) [
+      | inl earlier ↦
+          let lt : k < place = grind (arith, nat_tests) in
+          let first = prefix_len_stops (is_earlier row.day) rows row (omega (arith, lt, within)) in
+          let low : (get_or rows k row).day ≤ℤ before.day =
+          elim (cases_Bool (nat_lt k (place - 1))) [
+            | inl more ↦ rw was at (order.ascending k (place - 1) row (grind (arith, nat_tests)) (omega (arith, some, within)))
+            | inr last ↦
+                let same : k ≡ place - 1 = grind (arith, nat_tests) in
+                rw (same, was) (omega (arith, ints))
+          ] in
+          absurd (grind (arith, ints))
+      | inr from ↦ grind (arith, nat_tests)
+    ]
 
--- a place in a run isn't behind the first row of the day of any coming row
-pub record IsReached (rows : List Row) (run : Stream) (from k : ℕ) : Type 0 where
-  pub reached : (i : ℕ) (row : Row) → k ≤ i → slice_get rows i ≡ Some row → from ≤ earlier_rows row.day run
+-- the first row of all is the first of its day
+pub begins_first : (rows : List Row) (place : ℕ) (row : Row) → slice_get rows place ≡ Some row → place ≡ 0 → 0 ≡ prefix_len (is_earlier row.day) rows
+begins_first rows place row here first =
+    let le = earlier_within row rows place here in
+    omega arith
 
-pub reached_next : (rows : List Row) (run : Stream) (k : ℕ) (row : Row) → AreInDayOrder rows → slice_get rows k ≡ Some row → IsReached rows run (earlier_rows row.day run) (k + 1)
-reached_next rows run k row order here = record {
-  reached = λ i later behind there.
-      let first = get_or_from_slice_get rows k row row here in
-      let second = get_or_from_slice_get rows i later row there in
-      let within = slice_get_within rows i later there in
-      let up : row.day ≤ℤ later.day = rw (first, second) at (order.ascending k i row (omega arith) within) in
-      earlier_more row.day later.day up run.rows;
-}
+-- a day that is another than one before it
+pub days_differ : (a b day : ℤ) → a ≡ day → int_eq day b ≡ false → ¬ (a ≡ b)
+days_differ a b day same apart equal = grind (arith, nat_tests, ints)
+
+-- where the rows of a day begin, the search for a later day's goes on
+pub begins_later : (rows : List Row) (other : Stream) (place : ℕ) (row before : Row) → AreInDayOrder rows → slice_get rows place ≡ Some row → 1 ≤ place → slice_get rows (place - 1) ≡ Some before → earlier_rows before.day other ≤ earlier_rows row.day other
+begins_later rows other place row before order here some there =
+    let is = get_or_from_slice_get rows place row row here in
+    let was = get_or_from_slice_get rows (place - 1) before row there in
+    let within = slice_get_within rows place row here in
+    let up : before.day ≤ℤ row.day = rw (was, is) at (order.ascending (place - 1) place row (omega (arith, some)) within) in
+    earlier_more before.day row.day up other.rows
+
+-- what is known behind a row
+pub known_behind : (run other : Stream) (place : ℕ) (row : Row) (starts : Starts) → slice_get run.rows place ≡ Some row → starts.day ≡ row.day → starts.from ≡ earlier_rows row.day run → starts.other_from ≡ earlier_rows row.day other → AreBefore run other (place + 1) (Some starts)
+known_behind run other place row starts here day from other_from =
+    let back : place + 1 - 1 ≡ place = omega arith in
+    (omega arith, (row, rw back here, sym day), rw day from, rw day other_from)
 
 -- ---- the number of a row among those like it
 

@@ -1,5 +1,5 @@
 -- What clauses on the rows of a swap's legs say.
-use Rattle.std.specs.Prelude.{ℕ, not, ◌&&◌, ℤ, int_lt, Bool, List, [], ◌∷◌, Option, Some, None, option_map}
+use Rattle.std.specs.Prelude.{◌≡◌, ◌-◌, ◌≤◌, ℕ, not, ◌&&◌, ℤ, int_lt, Bool, List, [], ◌∷◌, Option, Some, None, option_map, slice_get}
 use Rattle.std.specs.List.{flat_map, prefix_len}
 use Rattle.act_model.specs.Run.{Stream}
 use Rattle.act_model.specs.declared.event.Event.{Event}
@@ -8,6 +8,7 @@ use Rattle.act_model.specs.declared.run.Row.{Row}
 use Rattle.act_profile.specs.Legs.{PlacedRow, is_netted_with, leg_event, net_event, partner, taken_rows}
 use Rattle.act_profile.specs.Order.{is_type}
 use Rattle.act_swap.specs.declared.netting.Side.{Side}
+use Rattle.act_swap.specs.declared.netting.Starts.{Starts}
 use Rattle.act_swap.specs.declared.netting.Side.TheVariants.{First, Second}
 
 -- a row is taken: it is after the status date, and no credit event
@@ -21,6 +22,12 @@ is_like a b = is_netted_with (0, a) (0, b)
 -- how many rows stand before the first that isn't before a day
 abbrev pub earlier_rows : ℤ → Stream → ℕ
 earlier_rows day run = prefix_len (λ row. int_lt row.day day) run.rows
+
+-- what is known before the row at a place: at the first one nothing, and at a later one where the rows of the day of the row before it begin
+abbrev pub AreBefore : Stream → Stream → ℕ → Option Starts → Type 0
+AreBefore run other place None = place ≡ 0
+AreBefore run other place (Some starts) =
+    (1 ≤ place) × ((row : Row) × (slice_get run.rows (place - 1) ≡ Some row) × (row.day ≡ starts.day)) × (starts.from ≡ earlier_rows starts.day run) × (starts.other_from ≡ earlier_rows starts.day other)
 
 -- the place of a row's partner, where it has one
 abbrev pub partner_place : List PlacedRow → List PlacedRow → PlacedRow → Option ℕ

@@ -5,7 +5,7 @@ ghost use Rattle.act_profile.specs.Legs.{capfl_amount, capfl_row};
 
 use crate::children::{paid_at, row_at};
 use crate::swaps_table::trade_payment;
-use act_kind::{Payment, Table, passed, signed, trade_payoff};
+use act_kind::{Payment, Table, pass, signed, trade_payoff};
 use act_model::{Common, Event, Row, Run, Source, State};
 use act_num::Fixed;
 use std::alloc::Global;
@@ -79,8 +79,9 @@ impl Table for CapTable<'_> {
         None
     }
 
-    fn accrued(&self, event: &Event, state: &State) -> Option<State> {
-        Some(passed(event.kind, event.calc, state))
+    fn accrue(&self, event: &Event, state: &mut State) -> Option<()> {
+        pass(event.kind, event.calc, state);
+        Some(())
     }
 
     fn payoff(&self, event: &Event, _value: Option<Fixed>, _state: &State) -> Option<Fixed> {
@@ -90,8 +91,8 @@ impl Table for CapTable<'_> {
         }
     }
 
-    fn state_after(&self, _event: &Event, _value: Option<Fixed>, state: &State) -> Option<State> {
-        Some(*state)
+    fn change(&self, _event: &Event, _value: Option<Fixed>, _state: &mut State) -> Option<()> {
+        Some(())
     }
 }
 

@@ -5,7 +5,7 @@ ghost use Rattle.std.specs.Arc.{arc_value};
 ghost use Rattle.std.specs.List.{count_by, filter};
 ghost use Rattle.act_profile.specs.Legs.{first_leg, is_netted_with, leg_event, net_event, placed_rows, second_leg, swaps_events, taken_rows};
 ghost use Rattle.act_swap.specs.Children.{AreInDayOrder, RunsAreInDayOrder};
-ghost use Rattle.act_swap.specs.Netting.{earlier_rows, is_like, is_taken, netted_events, partner_place, row_events};
+ghost use Rattle.act_swap.specs.Netting.{AreBefore, earlier_rows, is_like, is_taken, netted_events, partner_place, row_events};
 
 use crate::children::ChildRun;
 use act_date::Day;
@@ -110,12 +110,12 @@ fn add_netted(
     requires other_order { AreInDayOrder other.now.rows }
     ensures { IfOk result (λ _. events.new.items ≡ events.old.items ++ netted_events side leg status_date run.now other.now) }
 {
-    let mut from = 0;
-    let mut other_from = 0;
+    let mut before = None;
     'rows: for place in 0..run.count() {
         let row = run.row(place);
-        from = first_from(run, from, row.day);
-        other_from = first_from(other, other_from, row.day);
+        let starts = starts_of(&row, place, run, other, before);
+        let (from, other_from) = (starts.from, starts.other_from);
+        before = Some(starts);
         if !is_taken(status_date, &row) {
             continue;
         }
@@ -123,6 +123,51 @@ fn add_netted(
         add_row(events, side, leg, place as u32, &row, partner)?;
     }
     Ok(())
+}
+
+/// Where the rows of a day begin, of both legs.
+#[derive(Clone, Copy)]
+struct Starts {
+    /// The day.
+    day: Day,
+    /// The place of the leg's first row that isn't before the day.
+    from: usize,
+    /// The same of the other leg.
+    other_from: usize,
+}
+
+/// Where the rows of a row's day begin, by those of the row before it, where there is one.
+#[inline(always)]
+fn starts_of(
+    row: &Row,
+    place: usize,
+    run: &ChildRun<'_>,
+    other: &ChildRun<'_>,
+    before: Option<Starts>,
+) -> Starts
+    requires row { slice_get run.now.rows place ≡ Some row.now }
+    requires order { AreInDayOrder run.now.rows }
+    requires before { AreBefore run.now other.now place before }
+    ensures day { result.day ≡ row.now.day }
+    ensures from { result.from ≡ earlier_rows row.now.day run.now }
+    ensures other_from { result.other_from ≡ earlier_rows row.now.day other.now }
+{
+    let day = row.day;
+    let Some(before) = before else {
+        return Starts {
+            day,
+            from: 0,
+            other_from: first_from(other, 0, day),
+        };
+    };
+    if before.day == day {
+        return before;
+    }
+    Starts {
+        day,
+        from: place,
+        other_from: first_from(other, before.other_from, day),
+    }
 }
 
 /// Adds the event of a row of a netted leg, if it makes one, by the place of its partner.

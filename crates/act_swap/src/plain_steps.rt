@@ -27,36 +27,30 @@ impl PlainSwap<'_> {
         if self.common.status_date < self.swap.initial_exchange_date {
             Some(state)
         } else {
-            self.started(&self.begun(&state))
+            self.started(state)
         }
     }
 
-    /// The state with the notional and the rates that the swap begins with.
-    pub(crate) fn begun(&self, state: &State) -> State
-        ensures { result ≡ plain_swap_begun self.now.common self.now.swap state.now }
+    /// Sets the notional and the rates that the swap begins with.
+    pub(crate) fn begin(&self, state: &mut State)
+        ensures { state.new ≡ plain_swap_begun self.now.common self.now.swap state.old }
     {
-        State {
-            nt: self.own_sign(self.swap.notional_principal),
-            ipnr: self.swap.nominal_interest_rate,
-            ipnr2: self.swap.nominal_interest_rate2,
-            ..*state
-        }
+        state.nt = self.own_sign(self.swap.notional_principal);
+        state.ipnr = self.swap.nominal_interest_rate;
+        state.ipnr2 = self.swap.nominal_interest_rate2;
     }
 
     /// The state of a started swap: interest has accrued since the latest interest date.
-    fn started(&self, state: &State) -> Option<State>
+    fn started(&self, mut state: State) -> Option<State>
         requires { PlainSwapLeadsOn self.now.swap }
-        ensures { result ≡ plain_swap_started self.now.common self.now.swap state.now }
+        ensures { result ≡ plain_swap_started self.now.common self.now.swap (plain_swap_begun self.now.common self.now.swap state) }
     {
+        self.begin(&mut state);
         let first = self.accrues_from()?;
         let part = self.part_of_year(first, self.common.status_date);
-        let ipac = interest_on(state.nt, state.ipnr, part)?;
-        let ipac2 = interest_on(state.nt, state.ipnr2, part)?;
-        Some(State {
-            ipac,
-            ipac2,
-            ..*state
-        })
+        state.ipac = interest_on(state.nt, state.ipnr, part)?;
+        state.ipac2 = interest_on(state.nt, state.ipnr2, part)?;
+        Some(state)
     }
 
     /// The day from which the interest of a started swap has accrued: the latest of the initial exchange and the
@@ -89,55 +83,52 @@ impl PlainSwap<'_> {
         )
     }
 
-    /// The state before an event: what has accrued up to its day. Nothing accrues before IED and CE.
-    pub(crate) fn before_event(&self, kind: EventType, calc: Day, state: &State) -> Option<State>
-        ensures { result ≡ plain_swap_before_event self.now.common self.now.swap kind calc state.now }
+    /// Makes the state the one before an event: what has accrued up to its day. Nothing accrues before IED and CE.
+    pub(crate) fn accrue_before(&self, kind: EventType, calc: Day, state: &mut State) -> Option<()>
+        ensures { option_map (λ _. state.new) result ≡ plain_swap_before_event self.now.common self.now.swap kind calc state.old }
     {
         match kind {
-            EventType::IED | EventType::CE => Some(*state),
-            _ => self.accrued_until(calc, state),
+            EventType::IED | EventType::CE => Some(()),
+            _ => self.accrue(calc, state),
         }
     }
 
-    /// The state that has accrued at both rates up to a day. Sd never goes back.
-    fn accrued_until(&self, calc: Day, state: &State) -> Option<State>
-        ensures { result ≡ plain_swap_accrued self.now.common self.now.swap calc state.now }
+    /// Lets interest accrue at both rates up to a day. Sd never goes back.
+    fn accrue(&self, calc: Day, state: &mut State) -> Option<()>
+        ensures { option_map (λ _. state.new) result ≡ plain_swap_accrued self.now.common self.now.swap calc state.old }
     {
         let part = self.part_of_year(state.sd.unwrap_or(calc), calc);
-        let ipac = with_interest(state.ipac, state.nt, state.ipnr, part)?;
-        let ipac2 = with_interest(state.ipac2, state.nt, state.ipnr2, part)?;
-        Some(State {
-            sd: Some(later_day(state.sd, calc)),
-            ipac,
-            ipac2,
-            ..*state
-        })
+        state.ipac = with_interest(state.ipac, state.nt, state.ipnr, part)?;
+        state.ipac2 = with_interest(state.ipac2, state.nt, state.ipnr2, part)?;
+        state.sd = Some(later_day(state.sd, calc));
+        Some(())
     }
 
-    /// The state after RR, by the value of the reset code: the second rate is reset.
-    pub(crate) fn reset(&self, value: Option<Fixed>, state: &State) -> Option<State>
-        ensures { result
+    /// RR: the second rate is reset, by the value of the reset code.
+    pub(crate) fn reset(&self, value: Option<Fixed>, state: &mut State) -> Option<()>
+        ensures { option_map (λ _. state.new) result
             ≡ state_after (becomes_by_given self.now.swap.rate_reset.market_object_code_of_rate_reset
-            (λ o s. changed with_ipnr2 (reset_rate self.now.swap.rate_reset o s.ipnr2) s)) value state.now }
+            (λ o s. changed with_ipnr2 (reset_rate self.now.swap.rate_reset o s.ipnr2) s)) value state.old }
     {
         self.swap.rate_reset.market_object_code_of_rate_reset?;
-        self.after_reset(value?, state)
+        self.reset_to(value?, state)
     }
 
-    /// The state after a reset of the second rate to the rate that is observed.
-    fn after_reset(&self, observed: Fixed, state: &State) -> Option<State>
-        ensures { result ≡ changed with_ipnr2 (reset_rate self.now.swap.rate_reset observed state.now.ipnr2) state.now }
+    /// Resets the second rate to the one that is observed.
+    fn reset_to(&self, observed: Fixed, state: &mut State) -> Option<()>
+        ensures { option_map (λ _. state.new) result
+            ≡ changed with_ipnr2 (reset_rate self.now.swap.rate_reset observed state.old.ipnr2) state.old }
     {
-        let ipnr2 = reset_rate(&self.swap.rate_reset, observed, state.ipnr2)?;
-        Some(State { ipnr2, ..*state })
+        state.ipnr2 = reset_rate(&self.swap.rate_reset, observed, state.ipnr2)?;
+        Some(())
     }
 
-    /// The state after RRF, which sets the second rate to the one that is given.
-    pub(crate) fn after_fixed_reset(&self, state: &State) -> Option<State>
-        ensures { result ≡ changed with_ipnr2 self.now.swap.rate_reset.next_reset_rate state.now }
+    /// RRF: the second rate is the one that is given.
+    pub(crate) fn reset_as_given(&self, state: &mut State) -> Option<()>
+        ensures { option_map (λ _. state.new) result ≡ changed with_ipnr2 self.now.swap.rate_reset.next_reset_rate state.old }
     {
-        let ipnr2 = self.swap.rate_reset.next_reset_rate?;
-        Some(State { ipnr2, ..*state })
+        state.ipnr2 = self.swap.rate_reset.next_reset_rate?;
+        Some(())
     }
 }
 

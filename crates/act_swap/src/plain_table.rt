@@ -30,8 +30,8 @@ impl Table for PlainSwap<'_> {
         }
     }
 
-    fn accrued(&self, event: &Event, state: &State) -> Option<State> {
-        self.before_event(event.kind, event.calc, state)
+    fn accrue(&self, event: &Event, state: &mut State) -> Option<()> {
+        self.accrue_before(event.kind, event.calc, state)
     }
 
     fn payoff(&self, event: &Event, _value: Option<Fixed>, state: &State) -> Option<Fixed> {
@@ -41,48 +41,49 @@ impl Table for PlainSwap<'_> {
         }
     }
 
-    fn state_after(&self, event: &Event, value: Option<Fixed>, state: &State) -> Option<State> {
+    fn change(&self, event: &Event, value: Option<Fixed>, state: &mut State) -> Option<()> {
         match event.kind {
-            EventType::IED => Some(self.exchanged(event.calc, state)),
-            EventType::TD => Some(without_notional(&without_interest(state))),
-            EventType::IP => Some(without_interest(state)),
-            EventType::RRF => self.after_fixed_reset(state),
-            EventType::RR => self.reset(value, state),
-            EventType::MD => Some(without_notional(state)),
-            _ => Some(*state),
+            EventType::IED => self.exchange(event.calc, state),
+            EventType::TD => end(state),
+            EventType::IP => clear_interest(state),
+            EventType::RRF => self.reset_as_given(state)?,
+            EventType::RR => self.reset(value, state)?,
+            EventType::MD => clear_notional(state),
+            _ => {}
         }
+        Some(())
     }
 }
 
 impl PlainSwap<'_> {
-    /// The state after IED.
-    fn exchanged(&self, calc: Day, state: &State) -> State
-        ensures { result ≡ with_sd calc (plain_swap_begun self.now.common self.now.swap state.now) }
+    /// IED: the swap begins.
+    fn exchange(&self, calc: Day, state: &mut State)
+        ensures { state.new ≡ with_sd calc (plain_swap_begun self.now.common self.now.swap state.old) }
     {
-        State {
-            sd: Some(calc),
-            ..self.begun(state)
-        }
+        self.begin(state);
+        state.sd = Some(calc);
     }
 }
 
-/// The state in which nothing has accrued at either rate.
-fn without_interest(state: &State) -> State
-    ensures { result ≡ with_ipac (pos 0) (with_ipac2 (pos 0) state.now) }
+/// TD: there is no notional any more, and nothing has accrued.
+fn end(state: &mut State)
+    ensures { state.new ≡ with_nt (pos 0) (with_ipac (pos 0) (with_ipac2 (pos 0) state.old)) }
 {
-    State {
-        ipac: Fixed::ZERO,
-        ipac2: Fixed::ZERO,
-        ..*state
-    }
+    clear_interest(state);
+    clear_notional(state);
 }
 
-/// The state in which there is no notional.
-fn without_notional(state: &State) -> State
-    ensures { result ≡ with_nt (pos 0) state.now }
+/// Nothing has accrued any more at either rate.
+fn clear_interest(state: &mut State)
+    ensures { state.new ≡ with_ipac (pos 0) (with_ipac2 (pos 0) state.old) }
 {
-    State {
-        nt: Fixed::ZERO,
-        ..*state
-    }
+    state.ipac = Fixed::ZERO;
+    state.ipac2 = Fixed::ZERO;
+}
+
+/// There is no notional any more.
+fn clear_notional(state: &mut State)
+    ensures { state.new ≡ with_nt (pos 0) state.old }
+{
+    state.nt = Fixed::ZERO;
 }

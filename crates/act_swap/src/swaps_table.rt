@@ -10,7 +10,7 @@ ghost use Rattle.act_swap.specs.Signs.{by_leg};
 
 use crate::children::{paid_at, row_at};
 use crate::netting::{first_leg, second_leg};
-use act_kind::{Payment, Table, opposite, passed, signed, trade_payoff};
+use act_kind::{Payment, Table, opposite, pass, signed, trade_payoff};
 use act_model::{Common, ContractRole, Event, EventType, Row, Run, Source, State, Swaps};
 use act_num::Fixed;
 use std::alloc::Global;
@@ -106,8 +106,9 @@ impl Table for SwapsTable<'_> {
         None
     }
 
-    fn accrued(&self, event: &Event, state: &State) -> Option<State> {
-        Some(passed(event.kind, event.calc, state))
+    fn accrue(&self, event: &Event, state: &mut State) -> Option<()> {
+        pass(event.kind, event.calc, state);
+        Some(())
     }
 
     fn payoff(&self, event: &Event, _value: Option<Fixed>, _state: &State) -> Option<Fixed> {
@@ -117,8 +118,8 @@ impl Table for SwapsTable<'_> {
         }
     }
 
-    fn state_after(&self, _event: &Event, _value: Option<Fixed>, state: &State) -> Option<State> {
-        Some(*state)
+    fn change(&self, _event: &Event, _value: Option<Fixed>, _state: &mut State) -> Option<()> {
+        Some(())
     }
 }
 

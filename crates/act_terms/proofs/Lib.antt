@@ -6,5 +6,4 @@ pub mod Given
 pub mod NamesKept
 pub mod Nesting
 pub mod TermNames
-pub mod Trades
 pub mod WithoutWant

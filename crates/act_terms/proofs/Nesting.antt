@@ -1,6 +1,6 @@
 -- What stands in a JSON value nests less deep, so contracts that stand in others come to an end.
-use Rattle.std.proofs.Common.{◌≡◌, ℕ, zero, suc, ◌<◌, ◌≤◌, max, if◌then◌else◌, Bool, true, false, List, [], ◌∷◌, ◌++◌, ◌+◌, length, map, take, codes, get_or, Option, Some, None, refl, ap, sym, ◌∙◌, arith, append_assoc, append-nil}
-use Rattle.std.specs.List.{All, cons_option, filter_map, flat_map}
+use Rattle.std.proofs.Common.{◌≡◌, ℕ, zero, suc, ◌<◌, ◌≤◌, max, if◌then◌else◌, Bool, true, false, ◌||◌, is_some, List, [], ◌∷◌, ◌++◌, ◌+◌, length, map, take, codes, get_or, Option, Some, None, refl, ap, sym, ◌∙◌, arith, append_assoc, append-nil}
+use Rattle.std.specs.List.{All, cons_option, filter_map, flat_map, list_any}
 use Rattle.std.specs.Ordering.{match_ordering, nat_cmp}
 use Rattle.std.specs.Cmp.Lexicographic.{slice_cmp}
 use Rattle.std.specs.declared.cmp.Ordering.{Ordering}
@@ -14,7 +14,7 @@ use Rattle.serde_json.specs.View.{items_view, view}
 use Rattle.serde_json.specs.declared.value.Value.{Value}
 use Rattle.act_terms.specs.Choices.{reference_type_named}
 use Rattle.act_terms.specs.Fields.{choice_field}
-use Rattle.act_terms.specs.Inline.{contract_in, elements_in_structure, elements_where_listed, has_inline, inline_contracts, is_inside, nested, with_inline}
+use Rattle.act_terms.specs.Inline.{contract_in, elements_where_listed, has_inline, has_object, inline_contracts, is_inside, nested, with_inline}
 use Rattle.act_terms.specs.Structure.{if_object, inner_object, listed}
 
 -- ---- members and items
@@ -174,10 +174,48 @@ pub without_inner : (old now done all : List Data) (contract e : Data) → now �
 without_inner old now done all contract e before more is =
     before ∙ ap (λ xs. old ++ contract ∷ xs) (sym (none_more done e is) ∙ ap inside (sym more))
 
--- all elements of a contract's structure
-pub all_inside : (old now done : List Data) (contract : Data) → now ≡ old ++ contract ∷ inside done → done ≡ elements_in_structure contract → now ≡ old ++ with_inline contract
+-- all elements in which contracts may stand
+pub all_inside : (old now done : List Data) (contract : Data) → now ≡ old ++ contract ∷ inside done → filter_map contract_in done ≡ inline_contracts contract → now ≡ old ++ with_inline contract
+all_inside old now done contract before all = before ∙ ap (λ inner. old ++ contract ∷ flat_map with_inline inner) all ∙ ap (λ xs. old ++ xs) (sym (with_inline-step contract))
+
+-- no contract stands in elements without an object
+not_in : (b : Bool) (inner : Option Data) → is_some inner ≡ false → (if b then inner else None) ≡ None
+not_in true (Some inner) none = absurd (cc)
+not_in true None none = refl
+not_in false inner none = refl
+
+picked_by : (b : Bool) (elements : List Data) → filter_map contract_in (if b then elements else []) ≡ (if b then filter_map contract_in elements else [])
+picked_by true elements = refl
+picked_by false elements = refl
+
+left_false : (a b : Bool) → (a || b) ≡ false → a ≡ false
+left_false false b e = refl
+left_false true b e = absurd (cc)
+
+right_false : (a b : Bool) → (a || b) ≡ false → b ≡ false
+right_false false b e = e
+right_false true b e = absurd (cc)
+
+no_objects : (elements : List Data) → list_any has_object elements ≡ false → filter_map contract_in elements ≡ []
+no_objects [] none = refl
+no_objects (e ∷ elements) none =
+    let here : contract_in e ≡ None = not_in _ (inner_object e) (left_false _ _ none) in
+    rw here (no_objects elements (right_false (has_object e) _ none))
+
+either_way : (b : Bool) (elements : List Data) → (if b then elements else elements) ≡ elements
+either_way true elements = refl
+either_way false elements = refl
+
+-- the contracts that stand in a contract, by the elements of its structure
+pub inline_of : (contract : Data) (elements : List Data) → elements ≡ elements_where_listed (get (codes "contractStructure") contract)
+    → inline_contracts contract ≡ (if has_inline contract then filter_map contract_in elements else [])
 unfolding inline_contracts
-all_inside old now done contract before all = before ∙ ap (λ elements. old ++ contract ∷ inside elements) all ∙ ap (λ xs. old ++ xs) (sym (with_inline-step contract))
+inline_of contract elements is = rw is (picked_by (has_inline contract) (elements_where_listed (get (codes "contractStructure") contract)))
+
+-- none, where there is no object among them
+pub none_inline : (contract : Data) (elements : List Data) → elements ≡ elements_where_listed (get (codes "contractStructure") contract)
+    → list_any has_object elements ≡ false → inline_contracts contract ≡ []
+none_inline contract elements is none = inline_of contract elements is ∙ rw (no_objects elements none) (either_way (has_inline contract) [])
 
 -- values up to a place, and one more
 pub shown_more : (values : List Value) (i : ℕ) (v : Value) → i < length values → v ≡ get_or values i v → map view (take (i + 1) values) ≡ map view (take i values) ++ view v ∷ []

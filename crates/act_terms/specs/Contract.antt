@@ -1,6 +1,7 @@
 -- A contract of a portfolio file: its name, its terms and what it refers to, or the first of its terms that is refused.
 use Rattle.std.specs.Prelude.{ℕ, List, codes, Option, Some, None, Result, Ok}
 use Rattle.act_json.specs.Fields.{field_of}
+use Rattle.act_json.specs.declared.fault.JsonFault.{JsonFault}
 use Rattle.act_model.specs.Names.{NameLists}
 use Rattle.act_model.specs.declared.choice.ContractType.{ContractType}
 use Rattle.act_model.specs.declared.choice.ContractType.TheVariants as type
@@ -35,11 +36,13 @@ abbrev pub type_or_refusal : Option ContractType → Result ContractType TermsFa
 type_or_refusal None = refused UnknownKind (codes "contractType")
 type_or_refusal (Some type) = Ok type
 
+-- the type that the text of contractType names
+abbrev pub type_given : Result (Option (List ℕ)) JsonFault → Result ContractType TermsFault
+type_given said = needed (codes "contractType") said >>= (λ text. type_or_refusal (type_named text))
+
 -- contractType
 unfoldable pub contract_type : Data → Result ContractType TermsFault
-contract_type contract = do
-  text ← needed (codes "contractType") (field_of (codes "contractType") contract)
-  type_or_refusal (type_named text)
+contract_type contract = type_given (field_of (codes "contractType") contract)
 
 -- ---- the own terms of a type
 

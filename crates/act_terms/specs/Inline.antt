@@ -1,5 +1,5 @@
 -- The contracts of a file in portfolio order: those that stand in the structure of another directly behind it. This profile's own.
-use Rattle.std.specs.Prelude.{ℕ, zero, suc, if◌then◌else◌, Bool, true, false, List, [], ◌∷◌, codes, Option, Some, None, Result, Ok, Err}
+use Rattle.std.specs.Prelude.{ℕ, zero, suc, if◌then◌else◌, Bool, true, false, List, [], ◌∷◌, codes, Option, Some, None, is_some, Result, Ok, Err}
 use Rattle.std.specs.List.{filter_map, flat_map}
 use Rattle.act_json.specs.declared.fault.JsonFault.{JsonFault}
 use Rattle.act_model.specs.declared.choice.ContractType.{ContractType}
@@ -42,6 +42,10 @@ is_inside other = false
 abbrev pub contract_in : Data → Option Data
 contract_in element =
     if is_inside (choice_field reference_type_named (codes "referenceType") element) then inner_object element else None
+
+-- an object stands in an element
+abbrev pub has_object : Data → Bool
+has_object element = is_some (inner_object element)
 
 -- the contracts that stand in a contract, in the order of its structure
 unfoldable pub inline_contracts : Data → List Data

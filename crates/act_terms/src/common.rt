@@ -1,17 +1,16 @@
 //! The terms that every contract has.
 ghost use Rattle.std.specs.Prelude.{◌≡◌, ◌≢◌, Ok, Err, IfOk, IfErr};
-ghost use Rattle.serde_json.specs.View.{view};
+ghost use Rattle.act_json.specs.Listed.{object_of};
 ghost use Rattle.act_terms.specs.Common.{business_days_of, common_of, given_trades_of, may_trade, position_of, trades_of};
 
 use crate::choices::choice_in;
 use crate::currencies::{code_where, read_currencies};
 use crate::fault::TermsFault;
 use crate::fields::{needed, needed_day, optional, optional_day, optional_decimal};
-use crate::used::has_trade_terms;
 use act_date::{Calendar, Convention, Day, MonthRule};
+use act_json::Members;
 use act_model::{Common, ContractRole, ContractType, Names};
 use act_num::Fixed;
-use serde_json::Value;
 use std::alloc::Global;
 
 /// The role, and the day as of which the terms are given.
@@ -43,13 +42,13 @@ struct Trades {
 pub(crate) fn read_common(
     alloc: Global,
     contract_type: ContractType,
-    contract: &Value,
+    contract: &Members,
     number: u32,
     names: &mut Names,
 ) -> Result<Common, TermsFault>
-    ensures read { IfOk result (λ common. common_of contract_type number names.old (view contract.now) ≡ Ok (common, names.new)) }
+    ensures read { IfOk result (λ common. common_of contract_type number names.old (object_of contract.now) ≡ Ok (common, names.new)) }
     ensures refused { IfErr result (λ fault. fault ≢ TermsFault.NoMemory
-        → common_of contract_type number names.old (view contract.now) ≡ Err fault) }
+        → common_of contract_type number names.old (object_of contract.now) ≡ Err fault) }
 {
     let position = read_position(contract)?;
     let money = read_currencies(alloc, contract_type, contract, names)?;
@@ -77,8 +76,8 @@ pub(crate) fn read_common(
 
 /// The role, and the day as of which the terms are given.
 #[tactic(auto, unfolding(crate::specs::Common::position_of))]
-fn read_position(contract: &Value) -> Result<Position, TermsFault>
-    ensures { result ≡ position_of (view contract.now) }
+fn read_position(contract: &Members) -> Result<Position, TermsFault>
+    ensures { result ≡ position_of (object_of contract.now) }
 {
     Ok(Position {
         contract_role: needed("contractRole", choice_in(contract, "contractRole"))?,
@@ -88,8 +87,8 @@ fn read_position(contract: &Value) -> Result<Position, TermsFault>
 
 /// The calendar and the conventions.
 #[tactic(auto, unfolding(crate::specs::Common::business_days_of))]
-fn read_business_days(contract: &Value) -> Result<BusinessDays, TermsFault>
-    ensures { result ≡ business_days_of (view contract.now) }
+fn read_business_days(contract: &Members) -> Result<BusinessDays, TermsFault>
+    ensures { result ≡ business_days_of (object_of contract.now) }
 {
     let calendar = optional("calendar", choice_in(contract, "calendar"))?;
     let convention = optional(
@@ -119,10 +118,10 @@ pub(crate) fn may_trade(contract_type: ContractType) -> bool
 
 /// Purchase and termination, of a type that has them.
 #[tactic(auto, unfolding(crate::specs::Common::trades_of))]
-fn read_trades(contract_type: ContractType, contract: &Value) -> Result<Trades, TermsFault>
-    ensures { result ≡ trades_of contract_type (view contract.now) }
+fn read_trades(contract_type: ContractType, contract: &Members) -> Result<Trades, TermsFault>
+    ensures { result ≡ trades_of contract_type (object_of contract.now) }
 {
-    if may_trade(contract_type) && has_trade_terms(contract) {
+    if may_trade(contract_type) {
         return given_trades(contract);
     }
     Ok(Trades {
@@ -135,8 +134,8 @@ fn read_trades(contract_type: ContractType, contract: &Value) -> Result<Trades, 
 
 /// Purchase and termination.
 #[tactic(auto, unfolding(crate::specs::Common::given_trades_of))]
-fn given_trades(contract: &Value) -> Result<Trades, TermsFault>
-    ensures { result ≡ given_trades_of (view contract.now) }
+fn given_trades(contract: &Members) -> Result<Trades, TermsFault>
+    ensures { result ≡ given_trades_of (object_of contract.now) }
 {
     let purchase = optional_day(contract, "purchaseDate")?;
     let purchase_price = optional_decimal(contract, "priceAtPurchaseDate")?;

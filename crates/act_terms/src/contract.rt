@@ -1,10 +1,12 @@
 //! A contract of a portfolio file.
-ghost use Rattle.std.specs.Prelude.{◌≡◌, ◌≢◌, Ok, Err, IfOk, IfErr, codes, true, false};
+ghost use Rattle.std.specs.Prelude.{◌≡◌, ◌≢◌, Ok, Err, IfOk, IfErr, codes, true, false, option_map};
 ghost use Rattle.std.specs.Str.{bytes_eq};
 ghost use Rattle.serde_json.specs.View.{view};
+ghost use Rattle.act_json.specs.Listed.{object_of};
 ghost use Rattle.act_profile.specs.Built.{IsBuilt};
 ghost use Rattle.act_model.specs.Name.{is_name};
-ghost use Rattle.act_terms.specs.Contract.{contract_of, contract_type, kind_of, named_terms_of, terms_of};
+ghost use Rattle.act_json.specs.Results.{result_map};
+ghost use Rattle.act_terms.specs.Contract.{contract_of, contract_type, kind_of, named_terms_of, terms_of, type_given};
 
 use crate::common::read_common;
 use crate::credit::{read_cec, read_ceg};
@@ -18,7 +20,7 @@ use crate::redemption::{read_ann, read_lam, read_nam};
 use crate::reference::Reference;
 use crate::structure::read_references;
 use crate::swap::{read_capfl, read_swaps, read_swppv};
-use act_json::text_in;
+use act_json::{JsonFault, Members, text_in};
 use act_model::{ContractType, Kind, Names, Stk, Terms};
 use serde_json::Value;
 use std::alloc::Global;
@@ -79,10 +81,11 @@ pub fn read_contract(
     ensures built { IfOk result (λ read. IsBuilt read.named.terms.kind) }
     ensures contracts { IfOk result (λ read. read.names.contracts ≡ names.contracts) }
 {
-    if !contract.is_object() {
+    let Some(object) = contract.as_object() else {
         return Err(refused(TermCause::WrongShape, "-"));
-    }
-    let named = read_named_terms(alloc, contract, number, &mut names)?;
+    };
+    let members = Members::of(alloc, object)?;
+    let named = read_named_terms(alloc, &members, number, &mut names)?;
     Ok(ContractRead { named, names })
 }
 
@@ -90,13 +93,13 @@ pub fn read_contract(
 #[tactic(auto, unfolding(crate::specs::Contract::named_terms_of))]
 fn read_named_terms(
     alloc: Global,
-    contract: &Value,
+    contract: &Members,
     number: u32,
     names: &mut Names,
 ) -> Result<NamedTerms, TermsFault>
-    ensures read { IfOk result (λ named. named_terms_of number names.old (view contract.now) ≡ Ok (named, names.new)) }
+    ensures read { IfOk result (λ named. named_terms_of number names.old (object_of contract.now) ≡ Ok (named, names.new)) }
     ensures refused { IfErr result (λ fault. fault ≢ TermsFault.NoMemory
-        → named_terms_of number names.old (view contract.now) ≡ Err fault) }
+        → named_terms_of number names.old (object_of contract.now) ≡ Err fault) }
     ensures name { IfOk result (λ named. is_name named.id ≡ true) }
     ensures no_star { IfOk result (λ named. bytes_eq named.id (codes "*") ≡ false) }
     ensures built { IfOk result (λ named. IsBuilt named.terms.kind) }
@@ -114,10 +117,25 @@ fn read_named_terms(
 
 /// The type of a contract.
 #[tactic(auto, unfolding(crate::specs::Contract::contract_type))]
-pub(crate) fn contract_type(contract: &Value) -> Result<ContractType, TermsFault>
+pub(crate) fn contract_type(contract: &Members) -> Result<ContractType, TermsFault>
+    ensures { result ≡ contract_type (object_of contract.now) }
+{
+    type_given(contract.text("contractType"))
+}
+
+/// The type of a contract, from its object.
+#[tactic(auto, unfolding(crate::specs::Contract::contract_type))]
+pub(crate) fn type_of_object(contract: &Value) -> Result<ContractType, TermsFault>
     ensures { result ≡ contract_type (view contract.now) }
 {
-    let text = needed("contractType", text_in(contract, "contractType"))?;
+    type_given(text_in(contract, "contractType"))
+}
+
+/// The type that the text of a contract's type names.
+fn type_given(said: Result<Option<&str>, JsonFault>) -> Result<ContractType, TermsFault>
+    ensures { result ≡ type_given (result_map (option_map (λ text. text.now)) said.entry) }
+{
+    let text = needed("contractType", said)?;
     match ContractType::named(text) {
         Some(contract_type) => Ok(contract_type),
         None => Err(refused(TermCause::UnknownKind, "contractType")),
@@ -129,13 +147,13 @@ pub(crate) fn contract_type(contract: &Value) -> Result<ContractType, TermsFault
 fn read_terms(
     alloc: Global,
     contract_type: ContractType,
-    contract: &Value,
+    contract: &Members,
     number: u32,
     names: &mut Names,
 ) -> Result<Terms, TermsFault>
-    ensures read { IfOk result (λ terms. terms_of contract_type number names.old (view contract.now) ≡ Ok (terms, names.new)) }
+    ensures read { IfOk result (λ terms. terms_of contract_type number names.old (object_of contract.now) ≡ Ok (terms, names.new)) }
     ensures refused { IfErr result (λ fault. fault ≢ TermsFault.NoMemory
-        → terms_of contract_type number names.old (view contract.now) ≡ Err fault) }
+        → terms_of contract_type number names.old (object_of contract.now) ≡ Err fault) }
     ensures built { IfOk result (λ terms. IsBuilt terms.kind) }
 {
     let common = read_common(alloc, contract_type, contract, number, names)?;
@@ -148,12 +166,12 @@ fn read_terms(
 fn read_kind(
     alloc: Global,
     contract_type: ContractType,
-    contract: &Value,
+    contract: &Members,
     names: &mut Names,
 ) -> Result<Kind, TermsFault>
-    ensures read { IfOk result (λ kind. kind_of contract_type names.old (view contract.now) ≡ Ok (kind, names.new)) }
+    ensures read { IfOk result (λ kind. kind_of contract_type names.old (object_of contract.now) ≡ Ok (kind, names.new)) }
     ensures refused { IfErr result (λ fault. fault ≢ TermsFault.NoMemory
-        → kind_of contract_type names.old (view contract.now) ≡ Err fault) }
+        → kind_of contract_type names.old (object_of contract.now) ≡ Err fault) }
     ensures built { IfOk result (λ kind. IsBuilt kind) }
 {
     match contract_type {

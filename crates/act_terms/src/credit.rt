@@ -2,12 +2,14 @@
 //! structure refers to.
 ghost use Rattle.std.specs.Prelude.{◌≡◌, ◌≢◌, [], ◌∷◌, Ok, Err, IfOk, IfErr, map};
 ghost use Rattle.serde_json.specs.View.{view};
+ghost use Rattle.act_json.specs.Listed.{object_of};
 ghost use Rattle.act_terms.specs.Credit.{cec_of, ceg_of, credit_event_in, credit_events_from, credit_events_of};
 
 use crate::choices::{Choice, choice_in};
 use crate::exercise::read_settlement_period;
 use crate::fault::{TermCause, TermsFault, refused};
 use crate::fields::{optional, optional_day, optional_decimal};
+use act_json::Members;
 use act_model::{Cec, Ceg, GuaranteedExposure, ObsKind};
 use act_num::{Fixed, NoMemory};
 use serde_json::Value;
@@ -16,9 +18,9 @@ use std::slice;
 
 /// The terms of a CEG.
 #[tactic(auto, unfolding(crate::specs::Credit::ceg_of))]
-pub(crate) fn read_ceg(alloc: Global, contract: &Value) -> Result<Ceg, TermsFault>
-    ensures read { IfOk result (λ ceg. ceg_of (view contract.now) ≡ Ok ceg) }
-    ensures refused { IfErr result (λ fault. fault ≢ TermsFault.NoMemory → ceg_of (view contract.now) ≡ Err fault) }
+pub(crate) fn read_ceg(alloc: Global, contract: &Members) -> Result<Ceg, TermsFault>
+    ensures read { IfOk result (λ ceg. ceg_of (object_of contract.now) ≡ Ok ceg) }
+    ensures refused { IfErr result (λ fault. fault ≢ TermsFault.NoMemory → ceg_of (object_of contract.now) ≡ Err fault) }
 {
     let maturity_date = optional_day(contract, "maturityDate")?;
     let coverage = optional_decimal(contract, "coverageOfCreditEnhancement")?;
@@ -40,9 +42,9 @@ pub(crate) fn read_ceg(alloc: Global, contract: &Value) -> Result<Ceg, TermsFaul
 
 /// The terms of a CEC: those of a guarantee.
 #[tactic(auto, unfolding(crate::specs::Credit::cec_of))]
-pub(crate) fn read_cec(alloc: Global, contract: &Value) -> Result<Cec, TermsFault>
-    ensures read { IfOk result (λ cec. cec_of (view contract.now) ≡ Ok cec) }
-    ensures refused { IfErr result (λ fault. fault ≢ TermsFault.NoMemory → cec_of (view contract.now) ≡ Err fault) }
+pub(crate) fn read_cec(alloc: Global, contract: &Members) -> Result<Cec, TermsFault>
+    ensures read { IfOk result (λ cec. cec_of (object_of contract.now) ≡ Ok cec) }
+    ensures refused { IfErr result (λ fault. fault ≢ TermsFault.NoMemory → cec_of (object_of contract.now) ≡ Err fault) }
 {
     let guarantee = read_ceg(alloc, contract)?;
     Ok(Cec {
@@ -53,10 +55,10 @@ pub(crate) fn read_cec(alloc: Global, contract: &Value) -> Result<Cec, TermsFaul
 
 /// The types of credit events that are covered: a text or a list of texts, and default where none is given.
 #[tactic(auto, using(crate::proofs::Elements::listed_again), unfolding(crate::specs::Credit::credit_events_of))]
-fn read_credit_events(alloc: Global, contract: &Value) -> Result<Vec<ObsKind>, TermsFault>
-    ensures read { IfOk result (λ types. credit_events_of (view contract.now) ≡ Ok types.items) }
+fn read_credit_events(alloc: Global, contract: &Members) -> Result<Vec<ObsKind>, TermsFault>
+    ensures read { IfOk result (λ types. credit_events_of (object_of contract.now) ≡ Ok types.items) }
     ensures refused { IfErr result (λ fault. fault ≢ TermsFault.NoMemory
-        → credit_events_of (view contract.now) ≡ Err fault) }
+        → credit_events_of (object_of contract.now) ≡ Err fault) }
 {
     match contract.get("creditEventTypeCovered") {
         None | Some(Value::Null) => Ok(only_default(alloc)?),

@@ -1,7 +1,7 @@
 //! The names that terms give, and their numbers.
 ghost use Rattle.std.specs.Prelude.{◌≡◌, ◌≢◌, ◌++◌, Ok, Err, Some, true, false, IfOk, IfErr, codes, option_map, string_bytes};
 ghost use Rattle.std.specs.Str.{bytes_eq};
-ghost use Rattle.serde_json.specs.View.{view};
+ghost use Rattle.act_json.specs.Listed.{object_of};
 ghost use Rattle.act_json.specs.Results.{result_map};
 ghost use Rattle.std.specs.Option.{ForSome};
 ghost use Rattle.act_model.specs.Name.{is_currency, is_name};
@@ -10,10 +10,9 @@ ghost use Rattle.act_terms.specs.Names.{code_where, contract_id, currencies_of, 
 
 use crate::fault::{TermCause, TermsFault, refused};
 use crate::fields::{needed, needed_where, optional};
-use act_json::{JsonFault, text_in, word};
+use act_json::{JsonFault, Members};
 use act_model::{ContractType, Names, is_currency};
 use act_num::NoMemory;
-use serde_json::Value;
 use std::alloc::Global;
 use std::marker::Model;
 
@@ -30,12 +29,12 @@ pub(crate) struct Currencies {
 
 /// The contract's name: any name but a star.
 #[tactic(auto, unfolding(crate::specs::Names::contract_id))]
-pub(crate) fn contract_id(alloc: Global, contract: &Value) -> Result<String, TermsFault>
-    ensures id { result ≢ Err TermsFault.NoMemory → read_map string_bytes result ≡ contract_id (view contract.now) }
+pub(crate) fn contract_id(alloc: Global, contract: &Members) -> Result<String, TermsFault>
+    ensures id { result ≢ Err TermsFault.NoMemory → read_map string_bytes result ≡ contract_id (object_of contract.now) }
     ensures name { IfOk result (λ id. is_name (string_bytes id) ≡ true) }
     ensures no_star { IfOk result (λ id. bytes_eq (string_bytes id) (codes "*") ≡ false) }
 {
-    let id = needed("contractID", word(alloc, contract, "contractID"))?;
+    let id = needed("contractID", contract.word(alloc, "contractID"))?;
     if id.as_str() == "*" {
         return Err(refused(TermCause::BadName, "contractID"));
     }
@@ -48,14 +47,14 @@ pub(crate) fn code_where(
     alloc: Global,
     wanted: bool,
     term: &'static str,
-    contract: &Value,
+    contract: &Members,
     names: &mut Names,
 ) -> Result<Option<u32>, TermsFault>
-    ensures read { IfOk result (λ code. code_where wanted term.now names.old (view contract.now) ≡ Ok (code, names.new)) }
+    ensures read { IfOk result (λ code. code_where wanted term.now names.old (object_of contract.now) ≡ Ok (code, names.new)) }
     ensures refused { IfErr result (λ fault. fault ≢ TermsFault.NoMemory
-        → code_where wanted term.now names.old (view contract.now) ≡ Err fault) }
+        → code_where wanted term.now names.old (object_of contract.now) ≡ Err fault) }
 {
-    match needed_where(wanted, term, word(alloc, contract, term))? {
+    match needed_where(wanted, term, contract.word(alloc, term))? {
         Some(code) => Ok(Some(names.intern_code(code.as_str())?)),
         None => Ok(None),
     }
@@ -67,12 +66,12 @@ pub(crate) fn code_where(
 pub(crate) fn read_currencies(
     alloc: Global,
     contract_type: ContractType,
-    contract: &Value,
+    contract: &Members,
     names: &mut Names,
 ) -> Result<Currencies, TermsFault>
-    ensures read { IfOk result (λ money. currencies_of contract_type names.old (view contract.now) ≡ Ok (money, names.new)) }
+    ensures read { IfOk result (λ money. currencies_of contract_type names.old (object_of contract.now) ≡ Ok (money, names.new)) }
     ensures refused { IfErr result (λ fault. fault ≢ TermsFault.NoMemory
-        → currencies_of contract_type names.old (view contract.now) ≡ Err fault) }
+        → currencies_of contract_type names.old (object_of contract.now) ≡ Err fault) }
 {
     let currency = needed("currency", currency_in(contract, "currency"))?;
     match settlement_currency(contract_type, contract)? {
@@ -99,9 +98,9 @@ pub(crate) fn may_settle(contract_type: ContractType) -> bool
 #[tactic(auto, unfolding(crate::specs::Names::settlement_of))]
 fn settlement_currency<'a>(
     contract_type: ContractType,
-    contract: &'a Value,
+    contract: &Members<'a>,
 ) -> Result<Option<&'a str>, TermsFault>
-    ensures read { read_map (option_map (λ text. text.now)) result ≡ settlement_of contract_type (view contract.now) }
+    ensures read { read_map (option_map (λ text. text.now)) result ≡ settlement_of contract_type (object_of contract.now) }
     ensures name { IfOk result (λ found. ForSome found (λ currency. is_currency currency.now ≡ true)) }
 {
     if may_settle(contract_type) {
@@ -165,11 +164,14 @@ pub(crate) fn pair_name(alloc: Global, currency: &str, other: &str) -> Result<St
 }
 
 /// The currency that a term names, where it stands in the object. BadName where the text is none. It takes no memory.
-pub(crate) fn currency_in<'a>(contract: &'a Value, term: &str) -> Result<Option<&'a str>, JsonFault>
-    ensures field { result_map (option_map (λ text. text.now)) result ≡ currency_field term.now (view contract.now) }
+pub(crate) fn currency_in<'a>(
+    contract: &Members<'a>,
+    term: &str,
+) -> Result<Option<&'a str>, JsonFault>
+    ensures field { result_map (option_map (λ text. text.now)) result ≡ currency_field term.now (object_of contract.now) }
     ensures name { IfOk result (λ found. ForSome found (λ currency. is_currency currency.now ≡ true)) }
 {
-    match text_in(contract, term)? {
+    match contract.text(term)? {
         Some(currency) if !is_currency(currency) => Err(JsonFault::BadName),
         found => Ok(found),
     }

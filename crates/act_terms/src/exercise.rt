@@ -1,15 +1,14 @@
 //! The terms of options and futures. The underlying is bound behind them, to what the contract's structure refers to.
 ghost use Rattle.std.specs.Prelude.{◌≡◌};
-ghost use Rattle.serde_json.specs.View.{view};
+ghost use Rattle.act_json.specs.Listed.{object_of};
 ghost use Rattle.act_terms.specs.Exercise.{futur_of, has_two_strikes, optns_of, settlement_period_of};
 
 use crate::choices::choice_in;
 use crate::fault::TermsFault;
 use crate::fields::{needed, needed_day, needed_where, optional};
 use act_date::{Cycle, Stub, Unit};
-use act_json::{decimal, period};
+use act_json::Members;
 use act_model::{ExerciseType, Futur, OptionType, Optns};
-use serde_json::Value;
 
 /// No time, `P0D`.
 const NO_TIME: Cycle = Cycle {
@@ -20,16 +19,16 @@ const NO_TIME: Cycle = Cycle {
 
 /// The terms of an OPTNS. A call and put has two strikes.
 #[tactic(auto, unfolding(crate::specs::Exercise::optns_of))]
-pub(crate) fn read_optns(contract: &Value) -> Result<Optns, TermsFault>
-    ensures { result ≡ optns_of (view contract.now) }
+pub(crate) fn read_optns(contract: &Members) -> Result<Optns, TermsFault>
+    ensures { result ≡ optns_of (object_of contract.now) }
 {
     let maturity_date = needed_day(contract, "maturityDate")?;
     let option_type = needed("optionType", choice_in(contract, "optionType"))?;
-    let option_strike1 = needed("optionStrike1", decimal(contract, "optionStrike1"))?;
+    let option_strike1 = needed("optionStrike1", contract.decimal("optionStrike1"))?;
     let option_strike2 = needed_where(
         has_two_strikes(option_type),
         "optionStrike2",
-        decimal(contract, "optionStrike2"),
+        contract.decimal("optionStrike2"),
     )?;
     let exercise = optional(
         "optionExerciseType",
@@ -59,11 +58,11 @@ fn has_two_strikes(option_type: OptionType) -> bool
 
 /// The terms of a FUTUR.
 #[tactic(auto, unfolding(crate::specs::Exercise::futur_of))]
-pub(crate) fn read_futur(contract: &Value) -> Result<Futur, TermsFault>
-    ensures { result ≡ futur_of (view contract.now) }
+pub(crate) fn read_futur(contract: &Members) -> Result<Futur, TermsFault>
+    ensures { result ≡ futur_of (object_of contract.now) }
 {
     let maturity_date = needed_day(contract, "maturityDate")?;
-    let futures_price = needed("futuresPrice", decimal(contract, "futuresPrice"))?;
+    let futures_price = needed("futuresPrice", contract.decimal("futuresPrice"))?;
     let settlement_period = read_settlement_period(contract)?;
     Ok(Futur {
         maturity_date,
@@ -75,9 +74,9 @@ pub(crate) fn read_futur(contract: &Value) -> Result<Futur, TermsFault>
 
 /// The time from exercise to payment.
 #[tactic(auto, unfolding(crate::specs::Exercise::settlement_period_of))]
-pub(crate) fn read_settlement_period(contract: &Value) -> Result<Cycle, TermsFault>
-    ensures { result ≡ settlement_period_of (view contract.now) }
+pub(crate) fn read_settlement_period(contract: &Members) -> Result<Cycle, TermsFault>
+    ensures { result ≡ settlement_period_of (object_of contract.now) }
 {
-    let given = optional("settlementPeriod", period(contract, "settlementPeriod"))?;
+    let given = optional("settlementPeriod", contract.period("settlementPeriod"))?;
     Ok(given.unwrap_or(NO_TIME))
 }

@@ -1,14 +1,13 @@
 //! Terms that are required, that may be left out, and that have a bound.
 ghost use Rattle.std.specs.Prelude.{◌≡◌, IfOk, IsTrue, is_some, true};
-ghost use Rattle.serde_json.specs.View.{view};
+ghost use Rattle.act_json.specs.Listed.{object_of};
 ghost use Rattle.act_profile.specs.Built.{LeadsOn};
 ghost use Rattle.act_terms.specs.Fields.{cycle_where, day_after, needed, needed_day, needed_where, not_negative, optional, optional_cycle, optional_day, optional_decimal, positive};
 
 use crate::fault::{TermCause, TermsFault, fault_at, refused};
 use act_date::{Cycle, Day};
-use act_json::{JsonFault, cycle, day, decimal};
+use act_json::{JsonFault, Members};
 use act_num::Fixed;
-use serde_json::Value;
 
 /// What a term that may be left out gives.
 pub(crate) fn optional<T>(
@@ -54,63 +53,70 @@ pub(crate) fn needed_where<T>(
 
 /// The day of a term that may be left out.
 #[tactic(auto, unfolding(crate::specs::Fields::optional_day))]
-pub(crate) fn optional_day(contract: &Value, term: &'static str) -> Result<Option<Day>, TermsFault>
-    ensures { result ≡ optional_day term.now (view contract.now) }
+pub(crate) fn optional_day(
+    contract: &Members,
+    term: &'static str,
+) -> Result<Option<Day>, TermsFault>
+    ensures { result ≡ optional_day term.now (object_of contract.now) }
 {
-    optional(term, day(contract, term))
+    optional(term, contract.day(term))
 }
 
 /// The number of a term that may be left out.
 #[tactic(auto, unfolding(crate::specs::Fields::optional_decimal))]
 pub(crate) fn optional_decimal(
-    contract: &Value,
+    contract: &Members,
     term: &'static str,
 ) -> Result<Option<Fixed>, TermsFault>
-    ensures { result ≡ optional_decimal term.now (view contract.now) }
+    ensures { result ≡ optional_decimal term.now (object_of contract.now) }
 {
-    optional(term, decimal(contract, term))
+    optional(term, contract.decimal(term))
 }
 
 /// The cycle of a term that may be left out; its period has at least one unit.
 #[tactic(auto, unfolding(crate::specs::Fields::optional_cycle))]
 pub(crate) fn optional_cycle(
-    contract: &Value,
+    contract: &Members,
     term: &'static str,
 ) -> Result<Option<Cycle>, TermsFault>
-    ensures cycle { result ≡ optional_cycle term.now (view contract.now) }
+    ensures cycle { result ≡ optional_cycle term.now (object_of contract.now) }
     ensures leads_on { IfOk result (λ found. LeadsOn found) }
 {
-    optional(term, cycle(contract, term))
+    optional(term, contract.cycle(term))
 }
 
 /// The cycle of a term that is required where something holds; its period has at least one unit.
 #[tactic(auto, unfolding(crate::specs::Fields::cycle_where))]
 pub(crate) fn cycle_where(
     wanted: bool,
-    contract: &Value,
+    contract: &Members,
     term: &'static str,
 ) -> Result<Option<Cycle>, TermsFault>
-    ensures cycle { result ≡ cycle_where wanted term.now (view contract.now) }
+    ensures cycle { result ≡ cycle_where wanted term.now (object_of contract.now) }
     ensures leads_on { IfOk result (λ found. LeadsOn found) }
     ensures given { IfOk result (λ found. wanted ≡ true → IsTrue (is_some found)) }
 {
-    needed_where(wanted, term, cycle(contract, term))
+    needed_where(wanted, term, contract.cycle(term))
 }
 
 /// The day of a term that is required.
 #[tactic(auto, unfolding(crate::specs::Fields::needed_day))]
-pub(crate) fn needed_day(contract: &Value, term: &'static str) -> Result<Day, TermsFault>
-    ensures { result ≡ needed_day term.now (view contract.now) }
+pub(crate) fn needed_day(contract: &Members, term: &'static str) -> Result<Day, TermsFault>
+    ensures { result ≡ needed_day term.now (object_of contract.now) }
 {
-    needed(term, day(contract, term))
+    needed(term, contract.day(term))
 }
 
 /// A day after another one, or BadValue.
 #[tactic(auto, unfolding(crate::specs::Fields::day_after))]
-pub(crate) fn day_after(first: Day, contract: &Value, term: &str) -> Result<Option<Day>, JsonFault>
-    ensures { result ≡ day_after first term.now (view contract.now) }
+pub(crate) fn day_after(
+    first: Day,
+    contract: &Members,
+    term: &str,
+) -> Result<Option<Day>, JsonFault>
+    ensures { result ≡ day_after first term.now (object_of contract.now) }
 {
-    match day(contract, term)? {
+    match contract.day(term)? {
         Some(found) if found <= first => Err(JsonFault::BadValue),
         found => Ok(found),
     }
@@ -118,10 +124,10 @@ pub(crate) fn day_after(first: Day, contract: &Value, term: &str) -> Result<Opti
 
 /// A number that isn't negative, or BadValue.
 #[tactic(auto, unfolding(crate::specs::Fields::not_negative))]
-pub(crate) fn not_negative(contract: &Value, term: &str) -> Result<Option<Fixed>, JsonFault>
-    ensures { result ≡ not_negative term.now (view contract.now) }
+pub(crate) fn not_negative(contract: &Members, term: &str) -> Result<Option<Fixed>, JsonFault>
+    ensures { result ≡ not_negative term.now (object_of contract.now) }
 {
-    match decimal(contract, term)? {
+    match contract.decimal(term)? {
         Some(found) if found < Fixed::ZERO => Err(JsonFault::BadValue),
         found => Ok(found),
     }
@@ -129,10 +135,10 @@ pub(crate) fn not_negative(contract: &Value, term: &str) -> Result<Option<Fixed>
 
 /// A number above 0, or BadValue.
 #[tactic(auto, unfolding(crate::specs::Fields::positive))]
-pub(crate) fn positive(contract: &Value, term: &str) -> Result<Option<Fixed>, JsonFault>
-    ensures { result ≡ positive term.now (view contract.now) }
+pub(crate) fn positive(contract: &Members, term: &str) -> Result<Option<Fixed>, JsonFault>
+    ensures { result ≡ positive term.now (object_of contract.now) }
 {
-    match decimal(contract, term)? {
+    match contract.decimal(term)? {
         Some(found) if found <= Fixed::ZERO => Err(JsonFault::BadValue),
         found => Ok(found),
     }

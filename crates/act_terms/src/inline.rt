@@ -1,13 +1,14 @@
 //! Contracts that stand in the structures of others.
-ghost use Rattle.std.specs.Prelude.{◌≡◌, ◌++◌, ◌<◌, IfOk, OnOk, map, option_map, true};
-ghost use Rattle.std.specs.List.{All};
+ghost use Rattle.std.specs.Prelude.{◌≡◌, ◌++◌, ◌<◌, IfOk, OnOk, codes, map, option_map};
+ghost use Rattle.std.specs.List.{All, filter_map, list_any};
 ghost use Rattle.std.specs.Option.{ForSome};
 ghost use Rattle.serde_json.specs.Data.{depth};
+ghost use Rattle.serde_json.specs.Find.{get};
 ghost use Rattle.serde_json.specs.View.{view};
-ghost use Rattle.act_terms.specs.Inline.{contract_in, elements_in_structure, has_inline, in_portfolio_order, is_inside, with_inline};
+ghost use Rattle.act_terms.specs.Inline.{contract_in, elements_where_listed, has_inline, has_object, in_portfolio_order, inline_contracts, is_inside, with_inline};
 
-use crate::choices::choice_in;
-use crate::contract::contract_type;
+use crate::choices::choice_within;
+use crate::contract::type_of_object;
 use crate::reference::ReferenceType;
 use crate::structure::{has_structure, inner_object};
 use act_json::JsonFault;
@@ -41,26 +42,45 @@ fn add_contract<'a>(contract: &'a Value, order: &mut Vec<&'a Value>) -> Result<(
     Ok(())
 }
 
-/// The elements of a contract's structure, where its type has one and it is a list.
-#[tactic(auto, using(crate::proofs::Elements::listed_again))]
+/// The elements of a contract's structure, or none where no contract stands in them.
 fn elements(contract: &Value) -> &[Value]
-    ensures elements { map view result.now ≡ elements_in_structure (view contract.now) }
+    ensures inner { filter_map contract_in (map view result.now) ≡ inline_contracts (view contract.now) }
     ensures lower { All (λ element. depth (view element) < depth (view contract.now)) result.now }
 {
-    if !has_inline(contract) {
-        return &[];
+    let elements = listed(contract);
+    if have_objects(elements) && has_inline(contract) {
+        elements
+    } else {
+        &[]
     }
+}
+
+/// The elements of a structure that is a list.
+#[tactic(auto, using(crate::proofs::Elements::listed_again))]
+fn listed(contract: &Value) -> &[Value]
+    ensures elements { map view result.now ≡ elements_where_listed (get (codes "contractStructure") (view contract.now)) }
+    ensures lower { All (λ element. depth (view element) < depth (view contract.now)) result.now }
+{
     match contract.get("contractStructure") {
         Some(Value::Array(elements)) => elements.as_slice(),
         _ => &[],
     }
 }
 
+/// Whether an object stands in one of the elements.
+fn have_objects(elements: &[Value]) -> bool
+    ensures { result ≡ list_any has_object (map view elements.now) }
+{
+    elements
+        .iter()
+        .any(|element| inner_object(element).is_some())
+}
+
 /// Whether contracts may stand in a contract: it is of a type that has a structure.
 fn has_inline(contract: &Value) -> bool
     ensures { result ≡ has_inline (view contract.now) }
 {
-    match contract_type(contract) {
+    match type_of_object(contract) {
         Ok(contract_type) => has_structure(contract_type),
         Err(_) => false,
     }
@@ -71,7 +91,7 @@ fn contract_in(element: &Value) -> Option<&Value>
     ensures inner { option_map (λ inner. view inner.now) result ≡ contract_in (view element.now) }
     ensures lower { ForSome result (λ inner. depth (view inner.now) < depth (view element.now)) }
 {
-    if is_inside(choice_in(element, "referenceType")) {
+    if is_inside(choice_within(element, "referenceType")) {
         inner_object(element)
     } else {
         None

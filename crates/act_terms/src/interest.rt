@@ -1,6 +1,6 @@
 //! The terms of a loan's interest.
 ghost use Rattle.std.specs.Prelude.{◌≡◌, IfOk};
-ghost use Rattle.serde_json.specs.View.{view};
+ghost use Rattle.act_json.specs.Listed.{object_of};
 ghost use Rattle.act_profile.specs.Built.{LeadsOn};
 ghost use Rattle.act_terms.specs.Loan.{interest_dates_of, interest_of};
 
@@ -8,8 +8,8 @@ use crate::choices::choice_in;
 use crate::fault::TermsFault;
 use crate::fields::{optional, optional_cycle, optional_day, optional_decimal};
 use act_date::{Cycle, Day, DayCount};
+use act_json::Members;
 use act_num::Fixed;
-use serde_json::Value;
 
 /// The rate, what has accrued, the premium, and how parts of a year are counted.
 #[derive(Clone, Copy)]
@@ -30,8 +30,8 @@ pub(crate) struct InterestDates {
 
 /// The rate, what has accrued, the premium, and how parts of a year are counted.
 #[tactic(auto, unfolding(crate::specs::Loan::interest_of))]
-pub(crate) fn read_interest(contract: &Value) -> Result<Interest, TermsFault>
-    ensures { result ≡ interest_of (view contract.now) }
+pub(crate) fn read_interest(contract: &Members) -> Result<Interest, TermsFault>
+    ensures { result ≡ interest_of (object_of contract.now) }
 {
     let rate = optional_decimal(contract, "nominalInterestRate")?;
     let accrued = optional_decimal(contract, "accruedInterest")?;
@@ -50,8 +50,8 @@ pub(crate) fn read_interest(contract: &Value) -> Result<Interest, TermsFault>
 
 /// The dates of interest, and the end of its capitalisation.
 #[tactic(auto, unfolding(crate::specs::Loan::interest_dates_of))]
-pub(crate) fn read_interest_dates(contract: &Value) -> Result<InterestDates, TermsFault>
-    ensures dates { result ≡ interest_dates_of (view contract.now) }
+pub(crate) fn read_interest_dates(contract: &Members) -> Result<InterestDates, TermsFault>
+    ensures dates { result ≡ interest_dates_of (object_of contract.now) }
     ensures cycle { IfOk result (λ dates. LeadsOn dates.cycle_of_interest_payment) }
 {
     Ok(InterestDates {

@@ -1,6 +1,6 @@
 //! The terms of loans.
 ghost use Rattle.std.specs.Prelude.{◌≡◌, ◌≢◌, Ok, Err, IfOk, IfErr};
-ghost use Rattle.serde_json.specs.View.{view};
+ghost use Rattle.act_json.specs.Listed.{object_of};
 ghost use Rattle.act_terms.specs.Loan.{loan_of, pam_of};
 ghost use Rattle.act_profile.specs.Built.{LoanLeadsOn};
 
@@ -12,20 +12,20 @@ use crate::penalty::{read_penalty, reset_code_for};
 use crate::reset::read_rate_reset;
 use crate::scaling::read_scaling;
 use act_date::Day;
+use act_json::Members;
 use act_model::{Loan, Names, Pam};
-use serde_json::Value;
 use std::alloc::Global;
 
 /// The terms of a PAM.
 #[tactic(auto, unfolding(crate::specs::Loan::pam_of))]
 pub(crate) fn read_pam(
     alloc: Global,
-    contract: &Value,
+    contract: &Members,
     names: &mut Names,
 ) -> Result<Pam, TermsFault>
-    ensures read { IfOk result (λ pam. pam_of names.old (view contract.now) ≡ Ok (pam, names.new)) }
+    ensures read { IfOk result (λ pam. pam_of names.old (object_of contract.now) ≡ Ok (pam, names.new)) }
     ensures refused { IfErr result (λ fault. fault ≢ TermsFault.NoMemory
-        → pam_of names.old (view contract.now) ≡ Err fault) }
+        → pam_of names.old (object_of contract.now) ≡ Err fault) }
     ensures cycles { IfOk result (λ pam. LoanLeadsOn pam.loan) }
 {
     let exchange = needed_day(contract, "initialExchangeDate")?;
@@ -45,12 +45,12 @@ pub(crate) fn read_pam(
 pub(crate) fn read_loan(
     alloc: Global,
     exchange: Day,
-    contract: &Value,
+    contract: &Members,
     names: &mut Names,
 ) -> Result<Loan, TermsFault>
-    ensures read { IfOk result (λ loan. loan_of exchange names.old (view contract.now) ≡ Ok (loan, names.new)) }
+    ensures read { IfOk result (λ loan. loan_of exchange names.old (object_of contract.now) ≡ Ok (loan, names.new)) }
     ensures refused { IfErr result (λ fault. fault ≢ TermsFault.NoMemory
-        → loan_of exchange names.old (view contract.now) ≡ Err fault) }
+        → loan_of exchange names.old (object_of contract.now) ≡ Err fault) }
     ensures cycles { IfOk result (λ loan. LoanLeadsOn loan) }
 {
     let notional_principal = needed(

@@ -1,14 +1,14 @@
 //! The terms of penalties of prepayments.
 ghost use Rattle.std.specs.Prelude.{◌≡◌};
-ghost use Rattle.serde_json.specs.View.{view};
+ghost use Rattle.act_json.specs.Listed.{object_of};
 ghost use Rattle.act_terms.specs.Loan.{penalty_of, reset_code_for};
 
 use crate::choices::choice_in;
 use crate::fault::{TermCause, TermsFault, refused};
 use crate::fields::{optional, optional_decimal};
+use act_json::Members;
 use act_model::PenaltyType;
 use act_num::Fixed;
-use serde_json::Value;
 
 /// The penalty of a prepayment.
 #[derive(Clone, Copy)]
@@ -19,8 +19,8 @@ pub(crate) struct Penalty {
 
 /// The penalty of a prepayment.
 #[tactic(auto, unfolding(crate::specs::Loan::penalty_of))]
-pub(crate) fn read_penalty(contract: &Value) -> Result<Penalty, TermsFault>
-    ensures { result ≡ penalty_of (view contract.now) }
+pub(crate) fn read_penalty(contract: &Members) -> Result<Penalty, TermsFault>
+    ensures { result ≡ penalty_of (object_of contract.now) }
 {
     let penalty_type = optional("penaltyType", choice_in(contract, "penaltyType"))?;
     let rate = optional_decimal(contract, "penaltyRate")?;

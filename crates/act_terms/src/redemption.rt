@@ -1,7 +1,7 @@
 //! The terms of loans whose principal is redeemed.
 ghost use Rattle.std.specs.Prelude.{◌≡◌, ◌≢◌, ◌&&◌, not, Ok, Err, None, IfOk, IfErr, IsTrue, is_some, int_lt, pos, false, true};
 ghost use Rattle.std.specs.Option.{ForSome};
-ghost use Rattle.serde_json.specs.View.{view};
+ghost use Rattle.act_json.specs.Listed.{object_of};
 ghost use Rattle.act_profile.specs.Built.{AmortizingLeadsOn, LamIsBuilt, LeadsOn};
 ghost use Rattle.act_terms.specs.Redemption.{ann_of, calculation_base_of, lam_of, lam_payment_of, nam_of, redemption_dates_of, redemption_with};
 
@@ -13,10 +13,9 @@ use crate::fields::{
 };
 use crate::loan::{read_loan, read_pam};
 use act_date::{Cycle, Day};
-use act_json::decimal;
+use act_json::Members;
 use act_model::{Ann, InterestCalculationBase, Lam, Nam, Names, Redemption};
 use act_num::Fixed;
-use serde_json::Value;
 use std::alloc::Global;
 
 /// The days on which principal is redeemed.
@@ -39,12 +38,12 @@ struct CalculationBase {
 #[tactic(auto, unfolding(crate::specs::Redemption::lam_of))]
 pub(crate) fn read_lam(
     alloc: Global,
-    contract: &Value,
+    contract: &Members,
     names: &mut Names,
 ) -> Result<Lam, TermsFault>
-    ensures read { IfOk result (λ lam. lam_of names.old (view contract.now) ≡ Ok (lam, names.new)) }
+    ensures read { IfOk result (λ lam. lam_of names.old (object_of contract.now) ≡ Ok (lam, names.new)) }
     ensures refused { IfErr result (λ fault. fault ≢ TermsFault.NoMemory
-        → lam_of names.old (view contract.now) ≡ Err fault) }
+        → lam_of names.old (object_of contract.now) ≡ Err fault) }
     ensures built { IfOk result (λ lam. LamIsBuilt lam) }
 {
     let exchange = needed_day(contract, "initialExchangeDate")?;
@@ -68,19 +67,19 @@ pub(crate) fn read_lam(
 #[tactic(auto, unfolding(crate::specs::Redemption::nam_of))]
 pub(crate) fn read_nam(
     alloc: Global,
-    contract: &Value,
+    contract: &Members,
     names: &mut Names,
 ) -> Result<Nam, TermsFault>
-    ensures read { IfOk result (λ nam. nam_of names.old (view contract.now) ≡ Ok (nam, names.new)) }
+    ensures read { IfOk result (λ nam. nam_of names.old (object_of contract.now) ≡ Ok (nam, names.new)) }
     ensures refused { IfErr result (λ fault. fault ≢ TermsFault.NoMemory
-        → nam_of names.old (view contract.now) ≡ Err fault) }
+        → nam_of names.old (object_of contract.now) ≡ Err fault) }
     ensures cycles { IfOk result (λ nam. AmortizingLeadsOn nam.loan nam.redemption) }
 {
     let pam = read_pam(alloc, contract, names)?;
     let dates = read_redemption_dates(true, contract)?;
     let payment = needed(
         "nextPrincipalRedemptionPayment",
-        decimal(contract, "nextPrincipalRedemptionPayment"),
+        contract.decimal("nextPrincipalRedemptionPayment"),
     )?;
     let base = read_calculation_base(contract)?;
     Ok(Nam {
@@ -95,12 +94,12 @@ pub(crate) fn read_nam(
 #[tactic(auto, unfolding(crate::specs::Redemption::ann_of))]
 pub(crate) fn read_ann(
     alloc: Global,
-    contract: &Value,
+    contract: &Members,
     names: &mut Names,
 ) -> Result<Ann, TermsFault>
-    ensures read { IfOk result (λ ann. ann_of names.old (view contract.now) ≡ Ok (ann, names.new)) }
+    ensures read { IfOk result (λ ann. ann_of names.old (object_of contract.now) ≡ Ok (ann, names.new)) }
     ensures refused { IfErr result (λ fault. fault ≢ TermsFault.NoMemory
-        → ann_of names.old (view contract.now) ≡ Err fault) }
+        → ann_of names.old (object_of contract.now) ≡ Err fault) }
     ensures cycles { IfOk result (λ ann. AmortizingLeadsOn ann.loan ann.redemption) }
 {
     let pam = read_pam(alloc, contract, names)?;
@@ -119,9 +118,9 @@ pub(crate) fn read_ann(
 #[tactic(auto, unfolding(crate::specs::Redemption::redemption_dates_of))]
 fn read_redemption_dates(
     has_maturity: bool,
-    contract: &Value,
+    contract: &Members,
 ) -> Result<RedemptionDates, TermsFault>
-    ensures dates { result ≡ redemption_dates_of has_maturity (view contract.now) }
+    ensures dates { result ≡ redemption_dates_of has_maturity (object_of contract.now) }
     ensures cycle { IfOk result (λ dates. LeadsOn dates.cycle_of_principal_redemption) }
     ensures given { IfOk result (λ dates. has_maturity ≡ false
         → IsTrue (is_some dates.cycle_of_principal_redemption)) }
@@ -147,8 +146,8 @@ fn needs_cycle(has_maturity: bool, anchor: &Option<Day>) -> bool
 
 /// The payment of a LAM. Where no maturity is given it is required, and above 0.
 #[tactic(auto, unfolding(crate::specs::Redemption::lam_payment_of))]
-fn read_lam_payment(maturity: Option<Day>, contract: &Value) -> Result<Option<Fixed>, TermsFault>
-    ensures payment { result ≡ lam_payment_of maturity (view contract.now) }
+fn read_lam_payment(maturity: Option<Day>, contract: &Members) -> Result<Option<Fixed>, TermsFault>
+    ensures payment { result ≡ lam_payment_of maturity (object_of contract.now) }
     ensures above_zero { IfOk result (λ payment. maturity ≡ None
         → ForSome payment (λ p. int_lt (pos 0) p ≡ true)) }
     ensures given { IfOk result (λ payment. maturity ≡ None → IsTrue (is_some payment)) }
@@ -165,8 +164,8 @@ fn read_lam_payment(maturity: Option<Day>, contract: &Value) -> Result<Option<Fi
 
 /// What interest is computed on, and the days on which that is set to the notional.
 #[tactic(auto, unfolding(crate::specs::Redemption::calculation_base_of))]
-fn read_calculation_base(contract: &Value) -> Result<CalculationBase, TermsFault>
-    ensures base { result ≡ calculation_base_of (view contract.now) }
+fn read_calculation_base(contract: &Members) -> Result<CalculationBase, TermsFault>
+    ensures base { result ≡ calculation_base_of (object_of contract.now) }
     ensures cycle { IfOk result (λ base. LeadsOn base.cycle_of_interest_calculation_base) }
 {
     let base = optional(

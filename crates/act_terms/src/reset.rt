@@ -1,6 +1,6 @@
 //! The terms of rate resets.
 ghost use Rattle.std.specs.Prelude.{◌≡◌, ◌≢◌, ◌||◌, Ok, Err, IfOk, IfErr, is_some};
-ghost use Rattle.serde_json.specs.View.{view};
+ghost use Rattle.act_json.specs.Listed.{object_of};
 ghost use Rattle.act_profile.specs.Built.{LeadsOn};
 ghost use Rattle.act_terms.specs.Loan.{rate_limits_of, rate_reset_of};
 
@@ -8,9 +8,9 @@ use crate::currencies::code_where;
 use crate::fault::TermsFault;
 use crate::fields::{optional_cycle, optional_day, optional_decimal};
 use act_date::{Cycle, Day};
+use act_json::Members;
 use act_model::{Names, RateReset};
 use act_num::Fixed;
-use serde_json::Value;
 use std::alloc::Global;
 
 /// The greatest and the least rate, and the greatest and the least change at one reset.
@@ -26,12 +26,12 @@ struct RateLimits {
 #[tactic(auto, unfolding(crate::specs::Loan::rate_reset_of))]
 pub(crate) fn read_rate_reset(
     alloc: Global,
-    contract: &Value,
+    contract: &Members,
     names: &mut Names,
 ) -> Result<RateReset, TermsFault>
-    ensures read { IfOk result (λ reset. rate_reset_of names.old (view contract.now) ≡ Ok (reset, names.new)) }
+    ensures read { IfOk result (λ reset. rate_reset_of names.old (object_of contract.now) ≡ Ok (reset, names.new)) }
     ensures refused { IfErr result (λ fault. fault ≢ TermsFault.NoMemory
-        → rate_reset_of names.old (view contract.now) ≡ Err fault) }
+        → rate_reset_of names.old (object_of contract.now) ≡ Err fault) }
     ensures cycle { IfOk result (λ reset. LeadsOn reset.cycle_of_rate_reset) }
 {
     let anchor = optional_day(contract, "cycleAnchorDateOfRateReset")?;
@@ -70,8 +70,8 @@ fn is_reset(anchor: &Option<Day>, cycle: &Option<Cycle>) -> bool
 
 /// The greatest and the least rate, and the greatest and the least change at one reset.
 #[tactic(auto, unfolding(crate::specs::Loan::rate_limits_of))]
-fn read_rate_limits(contract: &Value) -> Result<RateLimits, TermsFault>
-    ensures { result ≡ rate_limits_of (view contract.now) }
+fn read_rate_limits(contract: &Members) -> Result<RateLimits, TermsFault>
+    ensures { result ≡ rate_limits_of (object_of contract.now) }
 {
     Ok(RateLimits {
         life_cap: optional_decimal(contract, "lifeCap")?,

@@ -1,6 +1,6 @@
 //! The terms of a loan's scaling.
 ghost use Rattle.std.specs.Prelude.{◌≡◌, ◌≢◌, Ok, Err, IfOk, IfErr};
-ghost use Rattle.serde_json.specs.View.{view};
+ghost use Rattle.act_json.specs.Listed.{object_of};
 ghost use Rattle.act_profile.specs.Built.{LeadsOn};
 ghost use Rattle.act_terms.specs.Loan.{no_effect, scales, scaling_of};
 
@@ -8,8 +8,8 @@ use crate::choices::choice_in;
 use crate::currencies::code_where;
 use crate::fault::TermsFault;
 use crate::fields::{needed_where, optional, optional_cycle, optional_day, positive};
+use act_json::Members;
 use act_model::{Names, Scaling, ScalingEffect};
-use serde_json::Value;
 use std::alloc::Global;
 
 /// Nothing is scaled.
@@ -22,12 +22,12 @@ const NO_EFFECT: ScalingEffect = ScalingEffect {
 #[tactic(auto, unfolding(crate::specs::Loan::scaling_of))]
 pub(crate) fn read_scaling(
     alloc: Global,
-    contract: &Value,
+    contract: &Members,
     names: &mut Names,
 ) -> Result<Scaling, TermsFault>
-    ensures read { IfOk result (λ scaling. scaling_of names.old (view contract.now) ≡ Ok (scaling, names.new)) }
+    ensures read { IfOk result (λ scaling. scaling_of names.old (object_of contract.now) ≡ Ok (scaling, names.new)) }
     ensures refused { IfErr result (λ fault. fault ≢ TermsFault.NoMemory
-        → scaling_of names.old (view contract.now) ≡ Err fault) }
+        → scaling_of names.old (object_of contract.now) ≡ Err fault) }
     ensures cycle { IfOk result (λ scaling. LeadsOn scaling.cycle_of_scaling_index) }
 {
     let given = optional("scalingEffect", choice_in(contract, "scalingEffect"))?;

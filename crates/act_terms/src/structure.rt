@@ -2,16 +2,17 @@
 ghost use Rattle.std.specs.Prelude.{◌≡◌, ◌≢◌, Ok, Err, IfOk, IfErr, codes, map, option_map};
 ghost use Rattle.serde_json.specs.View.{view};
 ghost use Rattle.act_json.specs.Fields.{field_of};
+ghost use Rattle.act_json.specs.Listed.{object_of};
 ghost use Rattle.act_json.specs.Results.{result_map};
 ghost use Rattle.act_terms.specs.Fault.{read_map};
 ghost use Rattle.act_terms.specs.Fields.{choice_field};
 ghost use Rattle.act_terms.specs.Reference.{target_of, to_contract};
 ghost use Rattle.act_terms.specs.Structure.{choice_or_refusal, contract_inside, contract_named, contract_text, elements_of, has_structure, inner_object, market_named, market_text, reference_of, reference_within, references_from, references_of, referred_of, structure_of, text_or_none};
 
-use crate::choices::{Choice, choice_in};
+use crate::choices::{Choice, choice_within};
 use crate::fault::{TermCause, TermsFault, refused};
 use crate::reference::{Reference, ReferenceType, Referred};
-use act_json::{JsonFault, text_in};
+use act_json::{JsonFault, Members, text_in};
 use act_model::{ContractType, Names, is_name};
 use act_num::NoMemory;
 use serde_json::Value;
@@ -22,13 +23,13 @@ use std::alloc::Global;
 pub(crate) fn read_references(
     alloc: Global,
     contract_type: ContractType,
-    contract: &Value,
+    contract: &Members,
     names: &mut Names,
 ) -> Result<Vec<Reference>, TermsFault>
     ensures read { IfOk result (λ references.
-        references_of contract_type names.old (view contract.now) ≡ Ok (references.items, names.new)) }
+        references_of contract_type names.old (object_of contract.now) ≡ Ok (references.items, names.new)) }
     ensures refused { IfErr result (λ fault. fault ≢ TermsFault.NoMemory
-        → references_of contract_type names.old (view contract.now) ≡ Err fault) }
+        → references_of contract_type names.old (object_of contract.now) ≡ Err fault) }
 {
     if has_structure(contract_type) {
         read_structure(alloc, contract, names)
@@ -53,12 +54,12 @@ pub(crate) fn has_structure(contract_type: ContractType) -> bool
 #[tactic(auto, unfolding(crate::specs::Structure::structure_of))]
 fn read_structure(
     alloc: Global,
-    contract: &Value,
+    contract: &Members,
     names: &mut Names,
 ) -> Result<Vec<Reference>, TermsFault>
-    ensures read { IfOk result (λ references. structure_of names.old (view contract.now) ≡ Ok (references.items, names.new)) }
+    ensures read { IfOk result (λ references. structure_of names.old (object_of contract.now) ≡ Ok (references.items, names.new)) }
     ensures refused { IfErr result (λ fault. fault ≢ TermsFault.NoMemory
-        → structure_of names.old (view contract.now) ≡ Err fault) }
+        → structure_of names.old (object_of contract.now) ≡ Err fault) }
 {
     let elements = elements(contract)?;
     read_elements(alloc, elements, names)
@@ -66,8 +67,8 @@ fn read_structure(
 
 /// The elements of a structure, which has to be given and to be a list.
 #[tactic(auto, using(crate::proofs::Elements::listed_again), unfolding(crate::specs::Structure::elements_of))]
-fn elements(contract: &Value) -> Result<&[Value], TermsFault>
-    ensures { read_map (λ elements. map view elements.now) result ≡ elements_of (view contract.now) }
+fn elements<'a>(contract: &Members<'a>) -> Result<&'a [Value], TermsFault>
+    ensures { read_map (λ elements. map view elements.now) result ≡ elements_of (object_of contract.now) }
 {
     match contract.get("contractStructure") {
         Some(Value::Array(elements)) => Ok(elements.as_slice()),
@@ -135,7 +136,7 @@ fn reference_within(
 fn chosen_in<T: Choice>(element: &Value, name: &str) -> Result<T, TermsFault>
     ensures { result ≡ choice_or_refusal (choice_field T.named name.now (view element.now)) }
 {
-    match choice_in(element, name) {
+    match choice_within(element, name) {
         Ok(Some(choice)) => Ok(choice),
         Ok(None) | Err(_) => Err(refused(TermCause::BadValue, "contractStructure")),
     }

@@ -1,7 +1,7 @@
 //! The terms of swaps, caps and floors. What a swap of two contracts and a cap and floor refer to is bound behind them, to
 //! what the contract's structure refers to.
 ghost use Rattle.std.specs.Prelude.{◌≡◌, ◌≢◌, Ok, Err, IfOk, IfErr};
-ghost use Rattle.serde_json.specs.View.{view};
+ghost use Rattle.act_json.specs.Listed.{object_of};
 ghost use Rattle.act_profile.specs.Built.{LeadsOn, PlainSwapLeadsOn};
 ghost use Rattle.act_terms.specs.Swap.{capfl_of, limited, plain_interest_of, swaps_of, swppv_of};
 
@@ -13,10 +13,9 @@ use crate::fields::{
 };
 use crate::reset::read_rate_reset;
 use act_date::{Cycle, Day, DayCount};
-use act_json::decimal;
+use act_json::Members;
 use act_model::{Capfl, DeliverySettlement, Names, Swaps, Swppv};
 use act_num::Fixed;
-use serde_json::Value;
 use std::alloc::Global;
 
 /// Both rates of a plain swap, how parts of a year are counted, and the dates of interest.
@@ -33,12 +32,12 @@ struct PlainInterest {
 #[tactic(auto, unfolding(crate::specs::Swap::swppv_of))]
 pub(crate) fn read_swppv(
     alloc: Global,
-    contract: &Value,
+    contract: &Members,
     names: &mut Names,
 ) -> Result<Swppv, TermsFault>
-    ensures read { IfOk result (λ swppv. swppv_of names.old (view contract.now) ≡ Ok (swppv, names.new)) }
+    ensures read { IfOk result (λ swppv. swppv_of names.old (object_of contract.now) ≡ Ok (swppv, names.new)) }
     ensures refused { IfErr result (λ fault. fault ≢ TermsFault.NoMemory
-        → swppv_of names.old (view contract.now) ≡ Err fault) }
+        → swppv_of names.old (object_of contract.now) ≡ Err fault) }
     ensures leads_on { IfOk result (λ swppv. PlainSwapLeadsOn swppv) }
 {
     let initial_exchange_date = needed_day(contract, "initialExchangeDate")?;
@@ -67,13 +66,13 @@ pub(crate) fn read_swppv(
 
 /// Both rates of a plain swap, how parts of a year are counted, and the dates of interest.
 #[tactic(auto, unfolding(crate::specs::Swap::plain_interest_of))]
-fn read_plain_interest(contract: &Value) -> Result<PlainInterest, TermsFault>
-    ensures interest { result ≡ plain_interest_of (view contract.now) }
+fn read_plain_interest(contract: &Members) -> Result<PlainInterest, TermsFault>
+    ensures interest { result ≡ plain_interest_of (object_of contract.now) }
     ensures cycle { IfOk result (λ interest. LeadsOn interest.cycle_of_interest_payment) }
 {
     let rate = needed(
         "nominalInterestRate",
-        decimal(contract, "nominalInterestRate"),
+        contract.decimal("nominalInterestRate"),
     )?;
     let rate2 = optional_decimal(contract, "nominalInterestRate2")?;
     let day_count = optional(
@@ -93,8 +92,8 @@ fn read_plain_interest(contract: &Value) -> Result<PlainInterest, TermsFault>
 
 /// The terms of a SWAPS.
 #[tactic(auto, unfolding(crate::specs::Swap::swaps_of))]
-pub(crate) fn read_swaps(contract: &Value) -> Result<Swaps, TermsFault>
-    ensures { result ≡ swaps_of (view contract.now) }
+pub(crate) fn read_swaps(contract: &Members) -> Result<Swaps, TermsFault>
+    ensures { result ≡ swaps_of (object_of contract.now) }
 {
     let delivery = optional(
         "deliverySettlement",
@@ -110,8 +109,8 @@ pub(crate) fn read_swaps(contract: &Value) -> Result<Swaps, TermsFault>
 
 /// The terms of a CAPFL, which has a cap, a floor or both.
 #[tactic(auto, unfolding(crate::specs::Swap::capfl_of))]
-pub(crate) fn read_capfl(contract: &Value) -> Result<Capfl, TermsFault>
-    ensures { result ≡ capfl_of (view contract.now) }
+pub(crate) fn read_capfl(contract: &Members) -> Result<Capfl, TermsFault>
+    ensures { result ≡ capfl_of (object_of contract.now) }
 {
     let maturity_date = optional_day(contract, "maturityDate")?;
     let life_cap = optional_decimal(contract, "lifeCap")?;

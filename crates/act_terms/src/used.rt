@@ -1,7 +1,6 @@
 //! Which names of a contract's object are terms of its type.
-ghost use Rattle.std.specs.Prelude.{◌≡◌, ◌∷◌, ◌++◌, [], Ok, false, IfOk, OnOk, map, string_bytes};
+ghost use Rattle.std.specs.Prelude.{◌≡◌, ◌∷◌, ◌++◌, [], IfOk, OnOk, map, string_bytes};
 ghost use Rattle.serde_json.specs.View.{view};
-ghost use Rattle.act_terms.specs.Common.{given_trades_of, no_trades};
 ghost use Rattle.act_terms.specs.Used.{common_terms, is_among, is_term_of, own_terms, settlement_terms, shared_terms, trade_terms, unused_names};
 
 use crate::common::may_trade;
@@ -211,22 +210,6 @@ fn is_trade_term(contract_type: ContractType, name: &str) -> bool
     may_trade(contract_type) && is_among(&TRADE_TERMS, name)
 }
 
-/// Whether a contract has one of the names of purchase and termination, or is no object. An object without them gives neither.
-#[tactic(auto, using(crate::proofs::Trades::not_traded))]
-pub(crate) fn has_trade_terms(contract: &Value) -> bool
-    ensures { result ≡ false → given_trades_of (view contract.now) ≡ Ok no_trades }
-{
-    let Some(object) = contract.as_object() else {
-        return true;
-    };
-    for (name, _) in object {
-        if is_among(&TRADE_TERMS, name.as_str()) {
-            return true;
-        }
-    }
-    false
-}
-
 /// Whether a name is a term of that type beside those that it shares with others.
 fn is_own_term(contract_type: ContractType, name: &str) -> bool
     ensures { result ≡ is_among (own_terms contract_type) name.now }
@@ -247,9 +230,10 @@ fn is_own_term(contract_type: ContractType, name: &str) -> bool
     }
 }
 
-/// Whether a name is one of some names.
+/// Whether a name is one of some names. Only those of its length are compared with it.
+#[tactic(auto, using(crate::proofs::TermNames::other_length))]
 fn is_among(names: &[&str], name: &str) -> bool
     ensures { result ≡ is_among (map (λ n. n.now) names.now) name.now }
 {
-    names.iter().any(|n| *n == name)
+    names.iter().any(|n| n.len() == name.len() && *n == name)
 }

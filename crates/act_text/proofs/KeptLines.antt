@@ -1,10 +1,10 @@
 -- Lines one behind the other, and where they end.
-use Rattle.std.proofs.Common.{◌≡◌, ℕ, zero, suc, ◌+◌, ◌-◌, ◌<◌, ◌≤◌, List, [], ◌∷◌, ◌++◌, length, map, take, drop, get_or, Some, option_map, slice_index_or, unwrap_or, refl, sym, ap, ap₂, ◌∙◌, append_assoc, arith}
-use Rattle.std.proofs.Math.Seq.{drop-append_seam, take-append_seam, take-suc}
+use Rattle.std.proofs.Common.{◌≡◌, ℕ, zero, suc, ◌+◌, ◌<◌, ◌≤◌, List, [], ◌∷◌, ◌++◌, length, map, take, drop, Some, unwrap_or, refl, sym, ap, ap₂, ◌∙◌, arith}
+use Rattle.std.proofs.Math.Seq.{take-append_seam}
 use Rattle.std.proofs.lemmas.List.{append-nil, length-append, length-map, length-take-le, take-append-drop, take-map, take_more}
 use Rattle.std.proofs.lemmas.List.Folds.{flat_map-map}
 use Rattle.std.proofs.lemmas.Grind.{flat_map-append}
-use Rattle.std.proofs.lemmas.Option.{get_or_from_slice_get, slice_get-get_or, slice_get-map, slice_get_within}
+use Rattle.std.proofs.lemmas.Option.{get_or_from_slice_get, slice_get_within}
 use Rattle.std.proofs.lemmas.Simd.{map-map}
 use Rattle.std.specs.List.{flat_map, slice_get}
 use Rattle.act_model.specs.Names.{NameLists}
@@ -53,26 +53,6 @@ module _ {A : Type 0} (f : A → List ℕ) where
   begin_at xs zero within = refl
   begin_at xs (suc k) within = first_end xs k (omega (arith, within))
 
-  -- the text of one line more
-  pub front_more : (xs : List A) (k : ℕ) (x : A) → k < length xs → flat_map f (take (suc k) xs) ≡ flat_map f (take k xs) ++ f (get_or xs k x)
-  front_more xs k x within =
-      ap (flat_map f) (take-suc xs k x within)
-      ∙ flat_map-append f (take k xs) (get_or xs k x ∷ [])
-      ∙ ap (λ line. flat_map f (take k xs) ++ line) (append-nil (f (get_or xs k x)))
-
-  -- some element of a list that has one
-  pub some_of : (xs : List A) (k : ℕ) → k < length xs → A
-  some_of [] k within = absurd (omega (arith, within))
-  some_of (x ∷ xs) k within = x
-
-  -- the text up to a line, the line, and the rest
-  pub parts : (xs : List A) (k : ℕ) (x : A) → k < length xs → flat_map f xs ≡ flat_map f (take k xs) ++ (f (get_or xs k x) ++ flat_map f (drop (suc k) xs))
-  parts xs k x within =
-      ap (flat_map f) (sym (take-append-drop (suc k) xs))
-      ∙ flat_map-append f (take (suc k) xs) (drop (suc k) xs)
-      ∙ ap (λ front. front ++ flat_map f (drop (suc k) xs)) (front_more xs k x within)
-      ∙ append_assoc (flat_map f (take k xs)) (f (get_or xs k x)) (flat_map f (drop (suc k) xs))
-
   module _ (xs : List A) (text ends : List ℕ) (together : text ≡ flat_map f xs) (each : ends ≡ ends_of 0 (map f xs)) (k start : ℕ) (starts : start_at ends k ≡ Some start) where
     pub starts_at : k ≤ length xs → start ≡ length (flat_map f (take k xs))
     starts_at within = ap (λ o. unwrap_or o 0) (sym starts ∙ ap (λ ends. start_at ends k) each ∙ begin_at xs k within)
@@ -80,42 +60,6 @@ module _ {A : Type 0} (f : A → List ℕ) where
     -- the text of the lines before
     pub text_before : k ≤ length xs → take start text ≡ flat_map f (take k xs)
     text_before within = ap (λ n. take n text) (starts_at within) ∙ ap (take (length (flat_map f (take k xs)))) together ∙ front xs k
-
-    module _ (end : ℕ) (within : k < length xs) (ends-there : end ≡ slice_index_or ends k end) where
-      abbrev pub some : A
-      some = some_of xs k within
-
-      pub ends_at : end ≡ length (flat_map f (take k xs)) + length (f (get_or xs k some))
-      ends_at =
-          ends-there ∙ get_or_from_slice_get ends k (length (flat_map f (take (suc k) xs))) end (ap (λ ends. slice_get ends k) each ∙ first_end xs k within)
-          ∙ ap length (front_more xs k some within)
-          ∙ length-append (flat_map f (take k xs)) (f (get_or xs k some))
-
-      pub in_order : start ≤ end
-      in_order = omega (arith, starts_at (omega (arith, within)), ends_at)
-
-      pub in_text : end ≤ length text
-      in_text = omega (
-        arith,
-        ends_at,
-        ap length together,
-        ap length (parts xs k some within),
-        length-append (flat_map f (take k xs)) (f (get_or xs k some) ++ flat_map f (drop (suc k) xs)),
-        length-append (f (get_or xs k some)) (flat_map f (drop (suc k) xs)),
-      )
-
-      -- the line at the place
-      pub piece : slice_get (map f xs) k ≡ Some (take (end - start) (drop start text))
-      piece =
-          let before = flat_map f (take k xs) in
-          let line = f (get_or xs k some) in
-          let rest = flat_map f (drop (suc k) xs) in
-          slice_get-map f xs k
-          ∙ ap (option_map f) (slice_get-get_or xs k some within)
-          ∙ ap Some
-          (sym (take-append_seam line rest) ∙ ap (λ n. take n (line ++ rest)) (omega (arith, starts_at (omega (arith, within)), ends_at))
-          ∙ ap (take (end - start)) (sym (drop-append_seam before (line ++ rest)) ∙ ap (drop (length before)) (sym (together ∙ parts xs k some within))
-          ∙ ap (λ n. drop n text) (sym (starts_at (omega (arith, within))))))
 
 -- rows of which each is printed as the other at its place have the same text
 pub same_text : (names : NameLists) (one other : List Row) → ArePrintedAlike one other → flat_map (row_text names) one ≡ flat_map (row_text names) other

@@ -23,6 +23,6 @@ pub missing_put : (nothing b0 b1 b2 b3 first name day : List ℕ) → nothing �
 missing_put nothing b0 b1 b2 b3 first name day e e0 e1 e2 e3 = simp (e3, e2, e1, e0, e, append_assoc) refl
 
 -- a word with a space behind it, a day and a type
-pub overflow_put : (nothing b0 b1 b2 first day word type : List ℕ) → nothing ≡ [] → b0 ≡ nothing ++ (first ++ codes " ") → b1 ≡ b0 ++ day → b2 ≡ b1 ++ codes " " ++ word → word ≡ type
+pub overflow_put : (nothing b0 b1 b2 first day type : List ℕ) → nothing ≡ [] → b0 ≡ nothing ++ (first ++ codes " ") → b1 ≡ b0 ++ day → b2 ≡ b1 ++ codes " " ++ type
     → b2 ++ codes "\n" ≡ line_of first (day ∷ type ∷ [])
-overflow_put nothing b0 b1 b2 first day word type e e0 e1 e2 w = simp (e2, e1, e0, e, w, append_assoc) refl
+overflow_put nothing b0 b1 b2 first day type e e0 e1 e2 = simp (e2, e1, e0, e, append_assoc) refl

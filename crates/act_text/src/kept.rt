@@ -1,18 +1,22 @@
 //! Lines of rows that are kept for when they come again.
 ghost use Rattle.std.specs.Prelude.{◌≡◌, ◌⊎◌, ℕ, ◌++◌, ◌∷◌, [], ◌≤◌, ◌<◌, length, map, take, Some, OnOk, OnErr, slice_get};
 ghost use Rattle.std.specs.Arc.{arc_value};
+ghost use Rattle.std.specs.List.{flat_map};
 ghost use Rattle.act_text.specs.Kept.{AreLines, ArePrintedAlike, start_at};
 ghost use Rattle.act_text.specs.Lines.{row_text};
 
-use crate::row::row_line;
-use act_model::{Names, Row, Rows, Run};
+use crate::row::RowPrinter;
+use act_model::{Names, Rows, Run};
 use act_num::NoMemory;
 use std::alloc::Global;
 use std::marker::Model;
 use std::sync::Arc;
 
+/// Most rows' lines have no more bytes than this.
+const USUAL_LINE: usize = 80;
+
 /// The lines of the first rows of a run, one behind the other. Where the lines of another run are wanted which begins with rows
-/// that are printed alike, as after a correction, these lines stay.
+/// that are found to be printed alike, as after a correction, these lines stay.
 #[derive(Drop)]
 pub struct RowLines<'a> {
     names: &'a Names,
@@ -47,26 +51,16 @@ impl<'a> RowLines<'a> {
         }
     }
 
-    /// How many lines there are.
+    /// The lines, one behind the other.
     #[inline]
-    pub fn count(&self) -> usize
-        ensures { result ≡ length self.now.rows }
+    pub fn text(&self) -> &[u8]
+        ensures { result.now ≡ flat_map (row_text self.now.names) self.now.rows }
     {
-        self.ends.len()
+        &self.text
     }
 
-    /// The line at a place, from 0.
-    #[inline]
-    pub fn line(&self, place: usize) -> &[u8]
-        requires { place < length self.now.rows }
-        ensures { slice_get (map (row_text self.now.names) self.now.rows) place ≡ Some result.now }
-    {
-        let start = start_of(&self.ends, place);
-        &self.text[start..self.ends[place]]
-    }
-
-    /// Makes them the lines of a run's rows. Those of the first rows stay, as far as rows are printed alike. Where memory runs
-    /// out, they are the lines of the run's first rows, or, where the run couldn't be shared, all as before.
+    /// Makes them the lines of a run's rows. Those of the first rows stay, as far as rows are found to be printed alike. Where
+    /// memory runs out, they are the lines of the run's first rows, or, where the run couldn't be shared, all as before.
     pub fn renew(&mut self, run: &Arc<Run, Global>) -> Result<(), NoMemory>
         ensures names { self.new.names ≡ self.old.names }
         ensures rows { OnOk result (self.new.rows ≡ (arc_value run.now).rows) }
@@ -81,7 +75,7 @@ impl<'a> RowLines<'a> {
         add_lines(self.names, &run.rows, &mut self.text, &mut self.ends)
     }
 
-    /// How many rows at the beginning are printed alike.
+    /// How many rows at the beginning are found to be printed alike.
     fn count_alike(&self, rows: &Rows) -> usize
         ensures here { result ≤ length self.now.rows }
         ensures there { result ≤ length rows.now }
@@ -119,25 +113,33 @@ fn add_lines(
     ensures are { AreLines names.now (take (length ends.new.items) rows.now) text.new.items ends.new.items }
     ensures all { OnOk result (length ends.new.items ≡ length rows.now) }
 {
-    while ends.len() < rows.count() {
-        add_line(names, &rows.row(ends.len()), text, ends)?;
+    make_room(rows.count() - ends.len(), text, ends)?;
+    let mut printer = RowPrinter::new(names);
+    'lines: while ends.len() < rows.count() {
+        printer.print(&rows.row(ends.len()));
+        add_line(printer.line(), text, ends)?;
     }
     Ok(())
 }
 
-/// Adds the line of a row. Where memory runs out, both are as before.
-fn add_line(
-    names: &Names,
-    row: &Row,
-    text: &mut Vec<u8>,
-    ends: &mut Vec<usize>,
-) -> Result<(), NoMemory>
-    ensures text { OnOk result (text.new.items ≡ text.old.items ++ row_text names.now row.now) }
+/// Makes room for so many lines more of the usual length. What stands there stays.
+fn make_room(count: usize, text: &mut Vec<u8>, ends: &mut Vec<usize>) -> Result<(), NoMemory>
+    ensures text { text.new.items ≡ text.old.items }
+    ensures ends { ends.new.items ≡ ends.old.items }
+{
+    ends.reserve(count)?;
+    text.reserve(count.saturating_mul(USUAL_LINE))?;
+    Ok(())
+}
+
+/// Adds a line. Where memory runs out, both are as before.
+fn add_line(line: &[u8], text: &mut Vec<u8>, ends: &mut Vec<usize>) -> Result<(), NoMemory>
+    ensures text { OnOk result (text.new.items ≡ text.old.items ++ line.now) }
     ensures ends { OnOk result (ends.new.items ≡ ends.old.items ++ length text.new.items ∷ []) }
     ensures unchanged { OnErr result ((text.new.items ≡ text.old.items) × (ends.new.items ≡ ends.old.items)) }
 {
     ends.reserve(1)?;
-    row_line(names, row, text)?;
+    text.extend_from_slice(line)?;
     let Ok(()) = ends.push(text.len()) else {
         unreachable!()
     };

@@ -9,4 +9,4 @@ mod row;
 pub use kept::RowLines;
 pub use line::{MOST_LINE, TextLine};
 pub use names::{code_name, contract_name, currency_name};
-pub use row::{close_line, put_row, row_line, type_word};
+pub use row::{RowPrinter, close_line, row_line, type_word};

@@ -1,5 +1,5 @@
 //! A line of text, put together word by word.
-ghost use Rattle.std.specs.Prelude.{◌≡◌, ◌+◌, ◌<◌, ◌≤◌, [], ◌++◌, length, true, OnOk, OnErr, codes};
+ghost use Rattle.std.specs.Prelude.{◌≡◌, ◌+◌, ◌<◌, ◌≤◌, [], ◌++◌, drop, length, true, OnOk, OnErr, codes};
 ghost use Rattle.act_num.specs.Decimal.{printed};
 ghost use Rattle.act_date.specs.Text.{date_text};
 ghost use Rattle.act_model.specs.Name.{is_name};
@@ -94,6 +94,17 @@ impl TextLine {
         let mut text = [0; 10];
         day.write(&mut text);
         self.push_bytes(&text);
+    }
+
+    /// Writes another day in place of the first ten bytes.
+    #[inline]
+    pub(crate) fn set_day(&mut self, day: Day)
+        requires { 10 ≤ length self.old }
+        ensures { self.new ≡ date_text day ++ drop 10 self.old }
+    {
+        let mut text = [0; 10];
+        day.write(&mut text);
+        self.bytes[..10].copy_from_slice(&text);
     }
 
     /// Adds a space and a number, 42 bytes at most.

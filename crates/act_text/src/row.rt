@@ -1,37 +1,152 @@
 //! The lines of rows and of how they close.
-ghost use Rattle.std.specs.Prelude.{◌≡◌, ◌+◌, ◌≤◌, [], ◌∷◌, ◌++◌, length, true, IfSome, OnOk, OnErr, codes, option_map, unwrap_or};
+ghost use Rattle.std.specs.Prelude.{◌≡◌, ◌+◌, ◌≤◌, [], ◌∷◌, ◌++◌, drop, length, true, IfSome, OnOk, OnErr, codes, option_map, unwrap_or};
 ghost use Rattle.act_date.specs.Text.{date_text};
 ghost use Rattle.act_model.specs.Name.{is_name};
+ghost use Rattle.act_text.specs.Again.{other_cells, other_cells_text};
 ghost use Rattle.act_text.specs.Lines.{close_text, line_of, row_text, type_text};
 
 use crate::line::{MOST_LINE, TextLine};
 use act_date::Day;
 use act_model::{Close, EventType, Names, Row};
-use act_num::NoMemory;
+use act_num::{Fixed, NoMemory};
+use std::marker::Model;
 
-/// Adds the line of a row to `out`, as [`put_row`] puts it together. Where memory runs out, `out` is as before.
+/// What is printed of a row but its day.
+#[derive(Clone, Copy, PartialEq, Eq)]
+struct OtherCells {
+    kind: EventType,
+    currency: u32,
+    payoff: Fixed,
+    notional: Fixed,
+    rate: Fixed,
+    interest: Fixed,
+}
+
+impl OtherCells {
+    /// Those of a row.
+    #[inline(always)]
+    fn of(row: &Row) -> OtherCells
+        ensures { result ≡ other_cells row.now }
+    {
+        OtherCells {
+            kind: row.kind,
+            currency: row.currency,
+            payoff: row.payoff,
+            notional: row.state.nt,
+            rate: row.state.ipnr,
+            interest: row.state.ipac,
+        }
+    }
+
+    /// Whether they are the same as others.
+    #[inline(always)]
+    fn are(&self, others: &OtherCells) -> bool
+        ensures { result ≡ true → self.now ≡ others.now }
+    {
+        self == others
+    }
+}
+
+/// Room for the line of one row after another. Of a row that is printed as the one before but for its day, only the day is
+/// written. It takes no memory. Contracts see the names and the line's bytes.
+#[derive(Drop)]
+pub struct RowPrinter<'a> {
+    names: &'a Names,
+    line: TextLine,
+    last: Option<OtherCells>,
+}
+
+impl<'a> Model for RowPrinter<'a> {
+    ghost use Rattle.std.specs.Prelude.{◌≤◌, length};
+    ghost use Rattle.act_text.specs.Again.{EndsAs, PrintedLine};
+
+    ghost Value = { PrintedLine };
+
+    ghost view = { λ p. record { names = p.names.now; bytes = p.line } };
+
+    ghost invariant = { λ p. EndsAs p.names.now p.last p.line };
+}
+
+impl<'a> RowPrinter<'a> {
+    /// A line of nothing yet. Lines are written with these names.
+    pub fn new(names: &'a Names) -> RowPrinter<'a>
+        ensures names { result.names ≡ names.now }
+        ensures bytes { result.bytes ≡ [] }
+    {
+        RowPrinter {
+            names,
+            line: TextLine::new(),
+            last: None,
+        }
+    }
+
+    /// Prints a row's line in place of the one before: day, type, currency, payoff, and of the state after the event the
+    /// notional, the rate and the interest accrued. Where the currency's number has no name, nothing stands there.
+    #[inline(always)]
+    pub fn print(&mut self, row: &Row)
+        ensures names { self.new.names ≡ self.old.names }
+        ensures bytes { self.new.bytes ≡ row_text self.old.names row.now }
+    {
+        let cells = OtherCells::of(row);
+        if self.ends_as(&cells) {
+            self.line.set_day(row.day);
+        } else {
+            self.print_anew(row.day, &cells);
+        }
+    }
+
+    /// Puts the whole line together, and keeps what stands behind its day.
+    #[inline(never)]
+    fn print_anew(&mut self, day: Day, cells: &OtherCells)
+        ensures names { self.new.names ≡ self.old.names }
+        ensures bytes { self.new.bytes ≡ date_text day ++ other_cells_text self.old.names cells.now }
+    {
+        put_line(self.names, day, cells, &mut self.line);
+        self.last = Some(*cells);
+    }
+
+    /// Whether the line ends already in what is printed behind the day.
+    #[inline(always)]
+    fn ends_as(&self, cells: &OtherCells) -> bool
+        ensures { result ≡ true → (10 ≤ length self.now.bytes) × (drop 10 self.now.bytes ≡ other_cells_text self.now.names cells.now) }
+    {
+        match &self.last {
+            Some(last) => last.are(cells),
+            None => false,
+        }
+    }
+
+    /// The line's bytes.
+    #[inline]
+    pub fn line(&self) -> &[u8]
+        ensures { result.now ≡ self.now.bytes }
+    {
+        self.line.as_bytes()
+    }
+}
+
+/// Adds the line of a row to `out`, as [`RowPrinter`] prints it. Where memory runs out, `out` is as before.
 pub fn row_line(names: &Names, row: &Row, out: &mut Vec<u8>) -> Result<(), NoMemory>
     ensures ok { OnOk result (out.new.items ≡ out.old.items ++ row_text names.now row.now) }
     ensures err { OnErr result (out.new.items ≡ out.old.items) }
 {
-    let mut line = TextLine::new();
-    put_row(names, row, &mut line);
-    Ok(out.extend_from_slice(line.as_bytes())?)
+    let mut printer = RowPrinter::new(names);
+    printer.print(row);
+    Ok(out.extend_from_slice(printer.line())?)
 }
 
-/// Puts the line of a row in `line`, in place of what stood there: day, type, currency, payoff, and of the state after the
-/// event the notional, the rate and the interest accrued. The number of a currency that has no name is left empty.
-pub fn put_row(names: &Names, row: &Row, line: &mut TextLine)
-    ensures { line.new ≡ row_text names.now row.now }
+/// Puts a line together in place of the one before: a day, and what is printed behind it.
+fn put_line(names: &Names, day: Day, cells: &OtherCells, line: &mut TextLine)
+    ensures { line.new ≡ date_text day ++ other_cells_text names.now cells.now }
 {
     line.clear();
-    line.push_day(row.day);
-    push_type(line, row.kind);
-    push_name(line, names.currency(row.currency));
-    line.push_number(row.payoff);
-    line.push_number(row.state.nt);
-    line.push_number(row.state.ipnr);
-    line.push_number(row.state.ipac);
+    line.push_day(day);
+    push_type(line, cells.kind);
+    push_name(line, names.currency(cells.currency));
+    line.push_number(cells.payoff);
+    line.push_number(cells.notional);
+    line.push_number(cells.rate);
+    line.push_number(cells.interest);
     line.push_bytes(b"\n");
 }
 
@@ -83,7 +198,7 @@ fn overflow_line(day: Day, kind: EventType, out: &mut Vec<u8>) -> Result<(), NoM
     let mut line = TextLine::new();
     line.push_bytes(b"overflow ");
     line.push_day(day);
-    line.push_word(type_word(kind));
+    push_type(&mut line, kind);
     line.end(out)
 }
 
@@ -100,7 +215,7 @@ fn push_name(line: &mut TextLine, name: Option<&str>)
     }
 }
 
-/// Adds a space and the word of a type of events, each by its own number of bytes.
+/// Adds a space and the word of a type of events. Each has an arm of its own, so that the compiler knows how long the word is.
 fn push_type(line: &mut TextLine, kind: EventType)
     requires room { length line.old + 5 ≤ MOST_LINE }
     ensures text { line.new ≡ line.old ++ codes " " ++ type_text kind }

@@ -9,7 +9,7 @@ ghost use Rattle.act_top.specs.Output.{check_text, contract_line, contracts_text
 ghost use Rattle.act_top.specs.Written.{Writes, faults_after};
 
 use crate::line::push_line;
-use crate::writing::{Stop, write_line};
+use crate::writing::{Stop, write_text};
 use act_io::Sink;
 use act_model::{Kind, Names};
 use act_portfolio::Portfolio;
@@ -152,7 +152,7 @@ pub(crate) fn write_words<K: Sink>(
 {
     line.clear();
     push_line(line, word, others)?;
-    write_line(out, line)
+    write_text(out, line)
 }
 
 /// A name of printable characters without space as it is, and any other as `?`.

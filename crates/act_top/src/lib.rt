@@ -38,4 +38,4 @@ pub use scripts::{Scripts, read_scripts};
 pub use top::{Status, eval_top};
 pub use transcript::{write_transcript, write_work};
 pub use weight::{Weights, all_events, check_weight, weights_of};
-pub use writing::{Stop, write_line};
+pub use writing::{Stop, write_text};

@@ -6,11 +6,11 @@ ghost use Rattle.act_text.specs.Kept.{AreWrittenWith};
 ghost use Rattle.act_text.specs.Lines.{row_text};
 ghost use Rattle.act_top.specs.Written.{Writes, faults_after};
 
-use crate::writing::{Stop, write_line};
+use crate::writing::{Stop, write_text};
 use act_io::Sink;
-use act_model::{Names, Row, Rows, Run};
+use act_model::{Names, Rows, Run};
 use act_num::NoMemory;
-use act_text::{RowLines, TextLine, put_row};
+use act_text::{RowLines, RowPrinter};
 use std::alloc::Global;
 use std::sync::Arc;
 
@@ -52,7 +52,7 @@ pub(crate) fn write_rows<K: Sink>(
     }
 }
 
-/// Writes the lines of a run's rows, where those of the run before are kept.
+/// Writes the lines of a run's rows together. Those that are kept of the run before aren't put together again.
 fn write_kept_rows<K: Sink>(
     out: &mut K,
     lines: &mut RowLines<'_>,
@@ -63,18 +63,7 @@ fn write_kept_rows<K: Sink>(
     ensures names { lines.new.names ≡ lines.old.names }
 {
     lines.renew(run)?;
-    write_lines(out, lines)
-}
-
-/// Writes lines.
-fn write_lines<K: Sink>(out: &mut K, lines: &RowLines<'_>) -> Result<(), Stop>
-    ensures text { Writes result (flat_map (row_text lines.now.names) lines.now.rows) (K.written out.old) (K.written out.new) }
-    ensures faults { K.faults out.new ≡ faults_after result (K.faults out.old) }
-{
-    for place in 0..lines.count() {
-        write_line(out, lines.line(place))?;
-    }
-    Ok(())
+    write_text(out, lines.text())
 }
 
 /// Writes the lines of rows, and keeps none.
@@ -82,23 +71,10 @@ fn write_new_rows<K: Sink>(out: &mut K, names: &Names, rows: &Rows) -> Result<()
     ensures text { Writes result (flat_map (row_text names.now) rows.now) (K.written out.old) (K.written out.new) }
     ensures faults { K.faults out.new ≡ faults_after result (K.faults out.old) }
 {
-    let mut line = TextLine::new();
-    for place in 0..rows.count() {
-        write_row(out, &mut line, names, &rows.row(place))?;
+    let mut printer = RowPrinter::new(names);
+    'places: for place in 0..rows.count() {
+        printer.print(&rows.row(place));
+        write_text(out, printer.line())?;
     }
     Ok(())
-}
-
-/// Writes the line of a row.
-fn write_row<K: Sink>(
-    out: &mut K,
-    line: &mut TextLine,
-    names: &Names,
-    row: &Row,
-) -> Result<(), Stop>
-    ensures text { Writes result (row_text names.now row.now) (K.written out.old) (K.written out.new) }
-    ensures faults { K.faults out.new ≡ faults_after result (K.faults out.old) }
-{
-    put_row(names, row, line);
-    write_line(out, line.as_bytes())
 }

@@ -15,7 +15,7 @@ use crate::check::write_check;
 use crate::command::Command;
 use crate::halt::Halt;
 use crate::job::{Job, job_of};
-use crate::writing::{Stop, write_line};
+use crate::writing::{Stop, write_text};
 use act_io::{Files, Sink};
 use act_num::Steps;
 use std::alloc::Global;
@@ -165,7 +165,7 @@ pub(crate) fn refuse_words<K: Sink>(out: &mut K) -> Result<Status, Stop>
     ensures text { Writes result words_outcome.text (K.written out.old) (K.written out.new) }
     ensures faults { K.faults out.new ≡ faults_after result (K.faults out.old) }
 {
-    write_line(out, USAGE)?;
+    write_text(out, USAGE)?;
     Ok(Status::Words)
 }
 
@@ -218,6 +218,6 @@ pub(crate) fn write_halt<K: Sink>(out: &mut K, halt: &Halt) -> Result<Status, St
         Halt::ScriptRefused(line) => (Status::ScriptRefused, line),
         Halt::Memory => return Err(Stop::Memory),
     };
-    write_line(out, line)?;
+    write_text(out, line)?;
     Ok(status)
 }

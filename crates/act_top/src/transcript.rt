@@ -1,4 +1,4 @@
-//! The text of a journal and its answers, written line by line.
+//! The text of a journal and its answers, written part by part.
 ghost use Rattle.std.specs.Prelude.{◌≡◌, ◌≤◌, ◌<◌, ◌^◌, ℕ, true, ◌++◌, length, map, Err, IfOk};
 ghost use Rattle.std.specs.Arc.{arc_value};
 ghost use Rattle.std.specs.List.{All, flat_map, list_all};
@@ -18,7 +18,7 @@ use crate::check::write_words;
 use crate::journal::{CALLER, ask_count};
 use crate::reading::Script;
 use crate::rows::{no_lines, write_rows};
-use crate::writing::{Stop, write_line};
+use crate::writing::{Stop, write_text};
 use act_io::Sink;
 use act_model::{Answer, Close, Item, Line, Names, Run};
 use act_print::{answer_head, answers_head, block_head, item_line, journal_head};
@@ -97,7 +97,7 @@ fn write_answers_head<K: Sink>(out: &mut K, line: &mut Vec<u8>, count: usize) ->
 {
     line.clear();
     answers_head(count, line)?;
-    write_line(out, line)
+    write_text(out, line)
 }
 
 /// Writes the journal of a script: its head, and a line for each step.
@@ -123,7 +123,7 @@ fn write_journal_head<K: Sink>(out: &mut K, line: &mut Vec<u8>, count: usize) ->
 {
     line.clear();
     journal_head(count, line)?;
-    write_line(out, line)
+    write_text(out, line)
 }
 
 /// Writes a line for each step of a script.
@@ -177,7 +177,7 @@ fn write_item<K: Sink>(
 {
     line.clear();
     item_line(names, item, line)?;
-    write_line(out, line)
+    write_text(out, line)
 }
 
 /// Writes the answers to the asks of callers, caller after caller, and answers whether each block ends in `end`.
@@ -296,7 +296,7 @@ fn write_answer_head<K: Sink>(out: &mut K, line: &mut Vec<u8>, answer: &Answer) 
 {
     line.clear();
     answer_head(answer, line)?;
-    write_line(out, line)
+    write_text(out, line)
 }
 
 /// Writes the block of a contract with its run.
@@ -332,7 +332,7 @@ fn write_block_head<K: Sink>(
 {
     line.clear();
     block_head(names, contract, line)?;
-    write_line(out, line)
+    write_text(out, line)
 }
 
 /// Writes the line of how rows close.
@@ -347,7 +347,7 @@ fn write_close<K: Sink>(
 {
     line.clear();
     close_line(names, close, line)?;
-    write_line(out, line)
+    write_text(out, line)
 }
 
 /// Whether a run wasn't stopped.

@@ -35,15 +35,15 @@ impl From<NoMemory> for Stop {
     }
 }
 
-/// Writes a line whole, or stops at a fault.
-#[inline]
-pub fn write_line<K: Sink>(out: &mut K, line: &[u8]) -> Result<(), Stop>
-    ensures text { Writes result line.now (K.written out.old) (K.written out.new) }
+/// Writes a text of one line or several whole, or stops at a fault.
+#[inline(always)]
+pub fn write_text<K: Sink>(out: &mut K, text: &[u8]) -> Result<(), Stop>
+    ensures text { Writes result text.now (K.written out.old) (K.written out.new) }
     ensures faults { K.faults out.new ≡ faults_after result (K.faults out.old) }
 {
     let mut done = 0;
-    'pieces: while done < line.len() {
-        done += out.put(&line[done..])?;
+    'pieces: while done < text.len() {
+        done += out.put_lines(&text[done..])?;
     }
     Ok(())
 }

@@ -11,7 +11,8 @@ use std::alloc::Global;
 pub fn answer(told: &mut Told, words: &mut Words<'_>, call: &str) {
     match call {
         "fetches" => fetches(told, words),
-        "puts" => puts(told, words),
+        "puts" => puts(told, words, false),
+        "puts_lines" => puts(told, words, true),
         "generated_text" => generated(told, words),
         "generated" => {
             generated(told, words);
@@ -90,12 +91,18 @@ fn fetches(told: &mut Told, words: &mut Words<'_>) {
     }
 }
 
-/// Tells what a sink in memory answers, and what it holds then: the calls that fail, and the pieces.
-fn puts(told: &mut Told, words: &mut Words<'_>) {
+/// Tells what a sink in memory answers, and what it holds then: the calls that fail, and the pieces, or texts of lines.
+fn puts(told: &mut Told, words: &mut Words<'_>, are_lines: bool) {
     let mut sink = MemSink::new(words.alloc, words.places());
     for piece in words.given.split_whitespace().skip(1) {
         told.next(" ");
-        match sink.put(&words.bytes_of(piece)) {
+        let piece = words.bytes_of(piece);
+        let taken = if are_lines {
+            sink.put_lines(&piece)
+        } else {
+            sink.put(&piece)
+        };
+        match taken {
             Ok(count) => told.value(count),
             Err(fault) => told.value(fault),
         }

@@ -14,10 +14,10 @@ use Rattle.act_audit.proofs.Tops.{halt-asks, halt-memory, halt-write, judged-ask
 use Rattle.act_audit.proofs.top.audit_top.Goals as goal
 
 pub returns-in_default-clause-write_part : goal.returns-in_default-clause-write_part
-returns-in_default-clause-write_part g c = λ stopped. usage-part _ _ _ _ _ _ _ (sym c.of.ensures ∙ c.in_default.is) c.status_of.result c.write_line.result c.status_of.ensures c.write_line.ensures.text stopped
+returns-in_default-clause-write_part g c = λ stopped. usage-part _ _ _ _ _ _ _ (sym c.of.ensures ∙ c.in_default.is) c.status_of.result c.write_text.result c.status_of.ensures c.write_text.ensures.text stopped
 
 pub returns-in_default-clause-memory_part : goal.returns-in_default-clause-memory_part
-returns-in_default-clause-memory_part g c = λ stopped. usage-memory _ _ _ _ _ _ _ (sym c.of.ensures ∙ c.in_default.is) c.status_of.result c.write_line.result c.status_of.ensures c.write_line.ensures.text stopped
+returns-in_default-clause-memory_part g c = λ stopped. usage-memory _ _ _ _ _ _ _ (sym c.of.ensures ∙ c.in_default.is) c.status_of.result c.write_text.result c.status_of.ensures c.write_text.ensures.text stopped
 
 pub returns-in-Ok-clause-asked : goal.returns-in-Ok-clause-asked
 returns-in-Ok-clause-asked g c =

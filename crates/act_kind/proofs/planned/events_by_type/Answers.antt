@@ -5,7 +5,7 @@ use Rattle.act_kind.proofs.planned.events_by_type.Goals as goal
 
 pub returns-in_err-add_events-in-Ok-clause-fault : goal.returns-in_err-add_events-in-Ok-clause-fault
 returns-in_err-add_events-in-Ok-clause-fault c =
-    let p = err_from_is_err_and c.from_residual.result c.from_residual.ensures.1 in
+    let p = err_from_is_err_and c.from_residual-in_err-add_events-in-Ok.result c.from_residual-in_err-add_events-in-Ok.ensures.1 in
     rw (p.1, p.2) (λ types are counted other. taken_fault _ _ _ c.types.answer-index c.in-Ok.dates _ types c.types.invariant c.types-test.true (rw c.in-Ok.is at (sym c.answer-item.is)) (rw c.deref.ensures.value at (c.in_err-add_events-in-Ok.ensures.fault other)) are)
 
 pub returns-in-Err-clause-fault : goal.returns-in-Err-clause-fault
@@ -27,5 +27,5 @@ returns-in-Err-clause-first_fault c = λ other. fault_here _ _ _ c.types.answer-
 
 pub returns-in_err-add_events-in-Ok-clause-first_fault : goal.returns-in_err-add_events-in-Ok-clause-first_fault
 returns-in_err-add_events-in-Ok-clause-first_fault c =
-    let p = err_from_is_err_and c.from_residual.result c.from_residual.ensures.1 in
+    let p = err_from_is_err_and c.from_residual-in_err-add_events-in-Ok.result c.from_residual-in_err-add_events-in-Ok.ensures.1 in
     rw (p.1, p.2) (λ other. fault_there _ _ _ c.types.answer-index c.in-Ok.dates _ c.types.invariant c.types-test.true (rw c.in-Ok.is at (sym c.answer-item.is)) (rw c.deref.ensures.value at (c.in_err-add_events-in-Ok.ensures.fault other)))

@@ -1,5 +1,6 @@
 use Rattle.std.proofs.Common.{◌≡◌, map, option_map, None, Some, ap, sym, ◌∙◌}
 use Rattle.std.proofs.lemmas.List.{take_all}
+use Rattle.std.specs.List.{filter_map}
 use Rattle.serde_json.specs.View.{view}
 use Rattle.act_terms.specs.Inline.{contract_in}
 use Rattle.act_terms.proofs.Nesting.{all_inside, shown_more, with_inner, without_inner}
@@ -20,4 +21,4 @@ loop-element-preserved t c =
 
 pub returns : goal.returns
 returns t c =
-    all_inside _ _ _ _ c.loop-element.invariant (ap (map view) (take_all c.loop-element.element-index c.elements-element-items.result.now c.loop-element-test.false) ∙ c.elements-element-items.ensures.elements)
+    all_inside _ _ _ _ c.loop-element.invariant (ap (λ elements. filter_map contract_in (map view elements)) (take_all c.loop-element.element-index c.elements-element-items.result.now c.loop-element-test.false) ∙ c.elements-element-items.ensures.inner)

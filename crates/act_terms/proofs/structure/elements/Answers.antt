@@ -3,6 +3,7 @@ use Rattle.serde_json.proofs.Views.{view-Array}
 use Rattle.serde_json.specs.Data.{array}
 use Rattle.serde_json.specs.Find.{get}
 use Rattle.serde_json.specs.View.{items_view, view}
+use Rattle.act_json.specs.Listed.{object_of}
 use Rattle.act_terms.specs.Structure.{elements_of}
 use Rattle.act_terms.proofs.Elements.{listed_again}
 use Rattle.act_terms.proofs.structure.elements.Goals as goal
@@ -12,5 +13,5 @@ unfolding elements_of
 returns-in-Some-Array c =
     let slice : c.as_slice.result.now ≡ c.in-Some-Array.elements.items = c.as_slice.ensures.value ∙ ap (λ v. v.items) c.in-Some-Array.elements-is in
     let is : view c.in-Some-Array.field-0.now ≡ array (items_view c.in-Some-Array.elements.items) = ap view c.in-Some-Array.field-0-is ∙ view-Array c.in-Some-Array.elements in
-    let there : get (codes "contractStructure") (view c.args.contract.now) ≡ Some (array (items_view c.in-Some-Array.elements.items)) = sym c.in-Some-Array.ensures ∙ ap Some is in
+    let there : get (codes "contractStructure") (object_of c.args.contract.now) ≡ Some (array (items_view c.in-Some-Array.elements.items)) = sym c.in-Some-Array.ensures ∙ ap Some is in
     rw (slice, there) (ap Ok (sym (listed_again (map view c.in-Some-Array.elements.items))))

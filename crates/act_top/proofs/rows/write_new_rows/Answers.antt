@@ -1,23 +1,36 @@
-use Rattle.std.proofs.Common.{refl, ◌∙◌, ap, arith}
+use Rattle.std.proofs.Common.{◌≡◌, ℕ, ◌+◌, List, ◌++◌, drop, slice_get, Some, refl, sym, ap, ◌∙◌, arith}
 use Rattle.std.specs.List.{flat_map}
+use Rattle.act_model.specs.Names.{NameLists}
+use Rattle.act_model.specs.declared.run.Row.{Row}
 use Rattle.act_text.specs.Lines.{row_text}
 use Rattle.act_top.proofs.Contracts.{drop-at}
 use Rattle.act_top.proofs.Texts.{drop-past, left-all, left-next, left-none, left-part, writes-part}
 use Rattle.act_top.proofs.rows.write_new_rows.Goals as goal
 
-pub returns-in_err-write_row-clause-text : goal.returns-in_err-write_row-clause-text
-returns-in_err-write_row-clause-text g c =
-    let here = ap (flat_map (row_text c.args.names.now)) (drop-at c.args.rows.now c.loop-place.place _ c.row.ensures) in
-    writes-part c.from_residual.result _ _ _ _ c.from_residual.ensures.1 (left-part c.in_err-write_row.field-0.0 _ _ _ _ _ _ _ c.loop-place.invariant.text here c.in_err-write_row.ensures.text)
+-- the lines from a row on begin with that row's
+next : (names written-with : NameLists) (rows : List Row) (place : ℕ) (row : Row) (line : List ℕ) → slice_get rows place ≡ Some row → line ≡ row_text written-with row → written-with ≡ names
+    → flat_map (row_text names) (drop place rows) ≡ line ++ flat_map (row_text names) (drop (place + 1) rows)
+next names written-with rows place row line here text same =
+    ap (flat_map (row_text names)) (drop-at rows place row here)
+    ∙ ap (λ line. line ++ flat_map (row_text names) (drop (place + 1) rows)) (sym (text ∙ ap (λ names. row_text names row) same))
 
-pub loop-place-preserved : goal.loop-place-preserved
-loop-place-preserved g c =
-    let here = ap (flat_map (row_text c.args.names.now)) (drop-at c.args.rows.now c.loop-place.place _ c.row.ensures) in
-    record { text = left-next _ _ _ _ _ _ _ c.loop-place.invariant.text here c.in_ok-write_row.ensures.text; faults = c.in_ok-write_row.ensures.faults ∙ c.loop-place.invariant.faults }
+pub returns-in_err-write_text-clause-text : goal.returns-in_err-write_text-clause-text
+returns-in_err-write_text-clause-text g c =
+    let here = next c.args.names.now _ c.args.rows.now c.places.place _ _ c.row.ensures (c.line.ensures ∙ c.print.ensures.bytes) c.places.invariant.names in
+    writes-part c.from_residual.result _ _ _ _ c.from_residual.ensures.1 (left-part c.in_err-write_text.field-0.0 _ _ _ _ _ _ _ c.places.invariant.text here c.in_err-write_text.ensures.text)
 
-pub loop-place-init : goal.loop-place-init
-loop-place-init g c = record { text = left-all _ _; faults = refl }
+pub places-preserved : goal.places-preserved
+places-preserved g c =
+    let here = next c.args.names.now _ c.args.rows.now c.places.place _ _ c.row.ensures (c.line.ensures ∙ c.print.ensures.bytes) c.places.invariant.names in
+    record {
+      text = left-next _ _ _ _ _ _ _ c.places.invariant.text here c.in_ok-write_text.ensures.text;
+      faults = c.in_ok-write_text.ensures.faults ∙ c.places.invariant.faults;
+      names = c.print.ensures.names ∙ c.places.invariant.names;
+    }
+
+pub places-init : goal.places-init
+places-init g c = record { text = left-all _ _; faults = refl; names = c.new-printer.ensures.names }
 
 pub returns-clause-text : goal.returns-clause-text
 returns-clause-text g c =
-    left-none _ _ _ _ c.loop-place.invariant.text (ap (flat_map (row_text c.args.names.now)) (drop-past c.args.rows.now c.loop-place.place (omega (arith, c.loop-place-test.false))))
+    left-none _ _ _ _ c.places.invariant.text (ap (flat_map (row_text c.args.names.now)) (drop-past c.args.rows.now c.places.place (omega (arith, c.places-test.false))))

@@ -5,8 +5,9 @@ use Rattle.act_top.proofs.Texts.{Left}
 use Rattle.act_top.proofs.rows.write_new_rows.Given as goal
 
 -- the lines of the rows from this one on are still to be written
-abbrev pub invariant-loop-place : goal.invariant-loop-place
-invariant-loop-place g l = record {
+abbrev pub invariant-places : goal.invariant-places
+invariant-places g l = record {
   text : Left (flat_map (row_text l.names) l.rows) (flat_map (row_text l.names) (drop l.place l.rows)) (g.K.Sink.written l.fn.out) (g.K.Sink.written l.out);
   faults : g.K.Sink.faults l.out ≡ g.K.Sink.faults l.fn.out;
+  names : l.printer.names ≡ l.names;
 }

@@ -1,5 +1,5 @@
 use Rattle.std.proofs.Common.{◌≡◌, ◌*◌, ◌/◌, ◌-◌, ◌≤◌, take}
-use Rattle.act_model.specs.Run.{ArePrintedAlike}
+use Rattle.act_model.specs.Run.{HaveSameCells}
 use Rattle.act_model.proofs.rows.Rows.count_alike.Given as goal
 
 -- whole chunks are printed alike
@@ -7,7 +7,7 @@ abbrev pub invariant-loop-alike : goal.invariant-loop-alike
 invariant-loop-alike l = record {
   whole : l.alike ≡ 64 * (l.alike / 64);
   within : l.alike ≤ l.limit;
-  alike : ArePrintedAlike (take l.alike l.self) (take l.alike l.other);
+  alike : HaveSameCells (take l.alike l.self) (take l.alike l.other);
 }
 
 abbrev pub decreases-loop-alike : goal.decreases-loop-alike
