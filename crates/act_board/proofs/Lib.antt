@@ -19,5 +19,6 @@ pub mod Quotas
 pub mod Reaching
 pub mod Readiness
 pub mod Referring
+pub mod SameRuns
 pub mod Told
 pub mod Worked

@@ -13,6 +13,7 @@ use crate::pair::{Pair, Progress, is_claimed, put_progress};
 use crate::ready::{Ready, fill, make_room_for_pairs, nothing_ready, settle};
 use crate::refer::parents_of;
 use crate::room::{append_entry, make_room, make_room_for_step, put_ask, put_entry, put_mark};
+use crate::unread::unread_since;
 use crate::wanting::{numbers, want_all};
 use crate::work::{Done, Task};
 use act_cut::IndexedBook;
@@ -71,13 +72,16 @@ impl Model for Board {
 }
 
 impl Board {
-    ghost use Rattle.std.specs.Prelude.{ℕ, ◌≡◌, ◌↔◌, ◌⊎◌, ◌<◌, ◌≤◌, [], true, false, Err, length, sum, IfErr, IfOk};
+    ghost use Rattle.std.specs.Prelude.{ℕ, Bool, ◌≡◌, ◌↔◌, ◌⊎◌, ◌<◌, ◌≤◌, [], true, false, not, Some, Err, is_some, length, sum, take, IfErr, IfOk};
     ghost use Rattle.std.specs.Arc.{arc_value};
+    ghost use Rattle.std.specs.List.{slice_get};
     ghost use Rattle.act_model.specs.Journal.{is_known};
     ghost use Rattle.act_model.specs.Observed.{is_entry};
     ghost use Rattle.act_model.specs.declared.journal.Step.TheVariants as step;
     ghost use Rattle.act_board.specs.Calls.{Claims, Collects, IsOf, after_finish, after_give_up};
-    ghost use Rattle.act_board.specs.History.{IsPresent, and_then, asks_by, is_given_up, journal_of, open_asks, version_of};
+    ghost use Rattle.act_board.specs.History.{IsPresent, and_then, asks_by, entries_of, is_given_up, journal_of, open_asks, version_of};
+    ghost use Rattle.act_profile.specs.Reads.{cut_of};
+    ghost use Rattle.act_profile.specs.Run.{run_of};
     ghost use Rattle.act_board.specs.Latest.{cut_for, kept_for};
     ghost use Rattle.act_board.specs.Legal.{HasQuota, IsFull, IsLegal, IsNext, IsSound};
     ghost use Rattle.act_board.specs.Work as evaluation;
@@ -139,6 +143,22 @@ impl Board {
         ensures { result ≡ version_of self.now }
     {
         self.book.len()
+    }
+
+    /// Of each contract whether its evaluation reads none of the entries behind the first ones, so many: its run over these and
+    /// its run over all are the same then.
+    pub fn unread_since(&mut self, version: u64) -> Result<Vec<bool>, NoMemory>
+        requires { version ≤ version_of self.old }
+        ensures count { IfOk result (λ unread. length unread.items ≡ length self.old.portfolio.contracts.terms) }
+        ensures each { IfOk result (λ unread. (c : ℕ) (one : Bool) → slice_get unread.items c ≡ Some one
+            → is_some (cut_of self.old.portfolio.contracts c (entries_of self.old) version (version_of self.old)) ≡ not one) }
+        ensures runs { IfOk result (λ unread. (c : ℕ) → slice_get unread.items c ≡ Some true
+            → run_of self.old.portfolio.contracts (take version (entries_of self.old)) c
+            ≡ run_of self.old.portfolio.contracts (entries_of self.old) c) }
+        ensures unchanged { self.new ≡ self.old }
+    {
+        let alloc = *self.items.allocator();
+        unread_since(alloc, &self.portfolio, &mut self.book, version)
     }
 
     /// How many asks of a caller are open.

@@ -15,6 +15,7 @@ mod pair;
 mod ready;
 mod refer;
 mod room;
+mod unread;
 mod wanting;
 mod work;
 

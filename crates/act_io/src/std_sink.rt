@@ -11,6 +11,9 @@ use std::marker::Model;
 /// How many bytes there is room for, once a piece has come: 64 KiB.
 const ROOM: usize = 65_536;
 
+/// A piece of so many bytes and more is written at once: to copy it would take longer than a call of the system.
+const LARGE: usize = 4_096;
+
 /// The standard output. What it takes is gathered, up to some 64 KiB, and written once and in order: where the next piece
 /// doesn't fit behind it, and by [`StdSink::finish`]. Contracts see what is gathered and the count of faults. A write that
 /// takes nothing is a fault.
@@ -67,9 +70,11 @@ impl<'a, R: Print> StdSink<'a, R> {
         ensures faults { self.new.faults ≡ put_faults result self.old.faults }
     {
         self.finish()?;
-        let first = &piece[..piece.len().min(ROOM)];
-        if self.gathered.reserve(ROOM).is_ok() && self.gathered.extend_from_slice(first).is_ok() {
-            return Ok(first.len());
+        if piece.len() < LARGE
+            && self.gathered.reserve(ROOM).is_ok()
+            && self.gathered.extend_from_slice(piece).is_ok()
+        {
+            return Ok(piece.len());
         }
         self.write(piece)
     }
@@ -81,13 +86,11 @@ impl<'a, R: Print> StdSink<'a, R> {
         ensures memory { result ≢ Err NoMemory }
         ensures faults { self.new.faults ≡ put_faults result self.old.faults }
     {
-        match self.rt.write_some(piece) {
-            Ok(count) if count > 0 => Ok(count),
-            _ => {
-                self.faults = self.faults.saturating_add(1);
-                Err(PutFault::Failed)
-            }
+        if self.rt.write_all(piece).is_err() {
+            self.faults = self.faults.saturating_add(1);
+            return Err(PutFault::Failed);
         }
+        Ok(piece.len())
     }
 }
 
@@ -110,7 +113,10 @@ impl<R: Print> Sink for StdSink<'_, R> {
             return Ok(0);
         }
         let room = self.gathered.capacity() - self.gathered.len();
-        if piece.len() <= room && self.gathered.extend_from_slice(piece).is_ok() {
+        if piece.len() < LARGE
+            && piece.len() <= room
+            && self.gathered.extend_from_slice(piece).is_ok()
+        {
             return Ok(piece.len());
         }
         self.put_past_room(piece)

@@ -1,19 +1,22 @@
--- Rows whose rests, bases and longer numbers stand apart.
-use Rattle.std.proofs.Common.{◌≡◌, ℕ, zero, suc, ◌+◌, ◌<◌, ◌≤◌, Bool, true, false, ◌&&◌, List, [], ◌∷◌, ◌++◌, length, map, get_or, slice_get, Option, None, Some, Result, Ok, Err, IfOk, OnErr, ◌⊎◌, inl, inr, refl, sym, ap, ap₂, subst, ◌∙◌, arith, int_eq}
+-- Rows whose rests, bases, levels and longer numbers stand apart.
+use Rattle.std.proofs.Common.{◌≡◌, ℕ, ◌+◌, ◌<◌, ◌≤◌, Bool, true, false, ◌&&◌, List, [], ◌∷◌, ◌++◌, length, map, take, drop, get_or, slice_get, Option, None, Some, ◌⊎◌, inl, inr, Result, Ok, Err, OnErr, refl, sym, ap, ap₂, subst, ◌∙◌, arith, int_eq}
 use Rattle.std.proofs.lemmas.Bool.Decides.{Decides-int_eq}
-use Rattle.std.proofs.lemmas.List.{get_or_append_left, length-append, map_push}
-use Rattle.std.proofs.lemmas.List.Elements.{All-append, All-head, All-tail}
+use Rattle.std.proofs.lemmas.List.{append-nil, get_or_append_left, length-append, take-append-drop}
+use Rattle.std.proofs.lemmas.List.Elements.{All-head, All-more, All-tail}
 use Rattle.std.proofs.lemmas.Option.{get_or_from_slice_get, slice_get_within}
 use Rattle.std.specs.List.{All}
 use Rattle.std.specs.Option.{option_eq}
 use Rattle.std.specs.Prelude.{ℤ}
-use Rattle.act_model.specs.Chunk.{HaveParts, bases_of, full_numbers, full_row, has_bases, has_numbers, has_rest, no_bases, no_numbers, no_rest, numbers_in, numbers_of, rest_of, row_of}
-use Rattle.act_model.specs.declared.chunk.Bases.{Bases}
-use Rattle.act_model.specs.declared.chunk.Numbers.{Numbers}
-use Rattle.act_model.specs.declared.chunk.Rest.{Rest}
-use Rattle.act_model.specs.declared.chunk.Short.{Short}
-use Rattle.act_model.specs.declared.chunk.Slim.{Slim}
-use Rattle.act_model.specs.declared.run.Row.{Row}
+use Rattle.act_model.specs.Chunk.{BeginsWith, FitsIn, HasParts, IsAtMost, StaysIn, bases_of, full_numbers, full_row, level_at, level_of, no_bases, no_level, no_numbers, no_rest, numbers_in, numbers_of, rest_of, row_of, short_of}
+use Rattle.act_model.specs.Run.{row_with}
+use Rattle.act_model.specs.declared.run.RowHead.{RowHead}
+use Rattle.act_model.specs.declared.shared.Counts.{Counts}
+use Rattle.act_model.specs.declared.shared.Level.{Level}
+use Rattle.act_model.specs.declared.shared.Rest.{Rest}
+use Rattle.act_model.specs.declared.shared.Shared.{Shared}
+use Rattle.act_model.specs.declared.shared.Short.{Short}
+use Rattle.act_model.specs.declared.shared.Slim.{Slim}
+use Rattle.act_model.specs.declared.state.State.{State}
 
 -- both are true
 pub both : (a b : Bool) → (a && b) ≡ true → (a ≡ true) × (b ≡ true)
@@ -25,6 +28,11 @@ same_day None None e = refl
 same_day None (Some b) e = cc
 same_day (Some a) None e = cc
 same_day (Some a) (Some b) e = ap Some ((Decides-int_eq a b).0 e)
+
+-- what holds anyhow holds where there is an error
+pub on_err : {T E : Type 0} (r : Result T E) (P : Type 0) → P → OnErr r P
+on_err (Ok x) P p = tt
+on_err (Err e) P p = p
 
 -- rests that are found equal
 pub same_rest : (a b : Rest)
@@ -51,118 +59,104 @@ same_rest a b e =
     let same : one ≡ other = simp (md, xd, ipnr2, ipac2, nsc, isc, prnxt, xa) refl in
     same
 
-pub same_bases : (a b : Bases) → (int_eq a.feac b.feac && int_eq a.ipcb b.ipcb) ≡ true → a ≡ b
-same_bases a b e =
-    let after_feac = both _ _ e in
-    let feac : a.feac ≡ b.feac = (Decides-int_eq _ _).0 after_feac.0 in
-    let ipcb : a.ipcb ≡ b.ipcb = (Decides-int_eq _ _).0 after_feac.1 in
-    let one : Bases = record { feac = a.feac; ipcb = a.ipcb } in
-    let other : Bases = record { feac = b.feac; ipcb = b.ipcb } in
-    let same : one ≡ other = simp (feac, ipcb) refl in
-    same
+-- ---- what is there stays
 
--- with more rests the rows are the same, with more bases, and with more longer numbers
-rows_with_rests : (rests more : List Rest) (bases : List Bases) (long : List Numbers) (slims : List Slim) → All (has_rest (length rests)) slims
-    → map (full_row (rests ++ more) bases long) slims ≡ map (full_row rests bases long) slims
-rows_with_rests rests more bases long [] have = refl
-rows_with_rests rests more bases long (slim ∷ slims) have =
-    ap₂ (λ rest rows. row_of rest (get_or bases slim.bases no_bases) (full_numbers long slim) slim ∷ rows) (get_or_append_left rests more no_rest slim.rest (All-head (has_rest (length rests)) slim slims have))
-    (rows_with_rests rests more bases long slims (All-tail (has_rest (length rests)) slim slims have))
+same_list : {X : Type 0} (xs xs' : List X) → xs' ≡ xs → BeginsWith xs' xs
+same_list xs xs' same = ([], same ∙ sym (append-nil xs))
 
-rows_with_bases : (rests : List Rest) (bases more : List Bases) (long : List Numbers) (slims : List Slim) → All (has_bases (length bases)) slims
-    → map (full_row rests (bases ++ more) long) slims ≡ map (full_row rests bases long) slims
-rows_with_bases rests bases more long [] have = refl
-rows_with_bases rests bases more long (slim ∷ slims) have =
-    ap₂ (λ own rows. row_of (get_or rests slim.rest no_rest) own (full_numbers long slim) slim ∷ rows) (get_or_append_left bases more no_bases slim.bases (All-head (has_bases (length bases)) slim slims have))
-    (rows_with_bases rests bases more long slims (All-tail (has_bases (length bases)) slim slims have))
-
-rows_with_long : (rests : List Rest) (bases : List Bases) (long more : List Numbers) (slims : List Slim) → All (has_numbers (length long)) slims
-    → map (full_row rests bases (long ++ more)) slims ≡ map (full_row rests bases long) slims
-rows_with_long rests bases long more [] have = refl
-rows_with_long rests bases long more (slim ∷ slims) have =
-    let first = All-head (has_numbers (length long)) slim slims have in
-    ap₂ (λ numbers rows. row_of (get_or rests slim.rest no_rest) (get_or bases slim.bases no_bases) numbers slim ∷ rows) (get_or_append_left (numbers_in slim.short ∷ long) more no_numbers slim.long (omega (arith, first)))
-    (rows_with_long rests bases long more slims (All-tail (has_numbers (length long)) slim slims have))
-
-pub of_one : {A : Type 0} (P : A → Type 0) (x : A) → P x → All P (x ∷ [])
-of_one P x p zero d here = p
-of_one P x p (suc k) d here = absurd (omega (arith, here))
-
--- what holds anyhow holds where there is an error
-pub on_err : {T E : Type 0} (r : Result T E) (P : Type 0) → P → OnErr r P
-on_err (Ok x) P p = tt
-on_err (Err e) P p = p
-
--- what stands at a place stands at its number, where it has one
-pub at_number : {A E : Type 0} (xs : List A) (x : A) (place : ℕ) (number : Result ℕ E) → slice_get xs place ≡ Some x → IfOk number (λ n. n ≡ place) → IfOk number (λ n. slice_get xs n ≡ Some x)
-at_number xs x place (Ok n) there is = ap (slice_get xs) is ∙ there
-at_number xs x place (Err e) there is = tt
-
--- numbers that stand at their place are a row's
-pub placed_in : (long : List Numbers) (slim : Slim) (short : Short) (place : ℕ) (numbers : Numbers) → slim.short ≡ short → slim.long ≡ place → get_or (numbers_in short ∷ long) place no_numbers ≡ numbers → full_numbers long slim ≡ numbers
-placed_in long slim short place numbers same at there =
-    ap (λ short. get_or (numbers_in short ∷ long) slim.long no_numbers) same ∙ ap (λ place. get_or (numbers_in short ∷ long) place no_numbers) at ∙ there
-
--- a list, and at most one more
-abbrev AtMostOneMore : {A : Type 0} → List A → List A → A → Type 0
-AtMostOneMore xs xs' x = (xs' ≡ xs) ⊎ (xs' ≡ xs ++ x ∷ [])
-
-not_fewer : {A : Type 0} (xs xs' : List A) (x : A) → AtMostOneMore xs xs' x → length xs < length xs' + 1
-not_fewer xs xs' x others = elim others [
-  | inl same ↦ omega (arith, ap length same)
-  | inr more ↦ omega (arith, ap length more, length-append xs (x ∷ []))
+-- a list, and maybe one more
+pub maybe_more : {X : Type 0} (xs xs' : List X) (x : X) → (xs' ≡ xs) ⊎ (xs' ≡ xs ++ x ∷ []) → BeginsWith xs' xs
+maybe_more xs xs' x others = elim others [
+  | inl same ↦ same_list xs xs' same
+  | inr more ↦ (x ∷ [], more)
 ]
 
--- the rests, the bases and the longer numbers before, and at most one more of each
-module _ (rests rests' : List Rest) (rest : Rest) (others : (rests' ≡ rests) ⊎ (rests' ≡ rests ++ rest ∷ []))
-    (bases bases' : List Bases) (own : Bases) (other-bases : (bases' ≡ bases) ⊎ (bases' ≡ bases ++ own ∷ []))
-    (long long' : List Numbers) (numbers : Numbers) (other-long : (long' ≡ long) ⊎ (long' ≡ long ++ numbers ∷ [])) where
-  pub same_rows : (slims : List Slim) → HaveParts rests bases long slims → map (full_row rests' bases' long') slims ≡ map (full_row rests bases long) slims
-  same_rows slims have =
-      elim others [
-        | inl same ↦ ap (λ rests. map (full_row rests bases' long') slims) same
-        | inr more ↦ ap (λ rests. map (full_row rests bases' long') slims) more ∙ rows_with_rests rests (rest ∷ []) bases' long' slims have.each_rest
-      ]
-      ∙ elim other-bases [
-        | inl same ↦ ap (λ bases. map (full_row rests bases long') slims) same
-        | inr more ↦ ap (λ bases. map (full_row rests bases long') slims) more ∙ rows_with_bases rests bases (own ∷ []) long' slims have.each_bases
-      ]
-      ∙ elim other-long [
-        | inl same ↦ ap (λ long. map (full_row rests bases long) slims) same
-        | inr more ↦ ap (λ long. map (full_row rests bases long) slims) more ∙ rows_with_long rests bases long (numbers ∷ []) slims have.each_numbers
-      ]
+not_fewer : {X : Type 0} (xs xs' : List X) → BeginsWith xs' xs → length xs ≤ length xs'
+not_fewer xs xs' more = omega (arith, ap length more.1, length-append xs more.0)
 
-  pub have_same : (slims : List Slim) → HaveParts rests bases long slims → HaveParts rests' bases' long' slims
-  have_same slims have =
-      let rests-within = not_fewer rests rests' rest others in
-      let bases-within = not_fewer bases bases' own other-bases in
-      let long-within = not_fewer long long' numbers other-long in
-      record {
-        each_rest = λ k d here. omega (arith, have.each_rest k d here, rests-within);
-        each_bases = λ k d here. omega (arith, have.each_bases k d here, bases-within);
-        each_numbers = λ k d here. omega (arith, have.each_numbers k d here, long-within);
-      }
+-- what stands at a place stands there still
+same_at : {X : Type 0} (xs xs' : List X) (d : X) (k : ℕ) → BeginsWith xs' xs → k < length xs → get_or xs' k d ≡ get_or xs k d
+same_at xs xs' d k more within = ap (λ xs. get_or xs k d) more.1 ∙ get_or_append_left xs more.0 d k within
 
-  -- one row more, with its rest, its bases and its numbers
-  module _ (slims slims' : List Slim) (slim : Slim) (row : Row) (e : slims' ≡ slims ++ slim ∷ []) (there : slice_get rests' slim.rest ≡ Some (rest_of row)) (bases-there : slice_get bases' slim.bases ≡ Some (bases_of row))
-      (long-within : slim.long ≤ length long') (long-there : full_numbers long' slim ≡ numbers_of row)
-      (is : row_of (rest_of row) (bases_of row) (numbers_of row) slim ≡ row) (have : HaveParts rests bases long slims) where
-    pub have_all : HaveParts rests' bases' long' slims'
-    have_all =
-        let before = have_same slims have in
-        record {
-          each_rest = subst (All (has_rest (length rests'))) (sym e)
-              (All-append (has_rest (length rests')) slims (slim ∷ []) before.each_rest (of_one (has_rest (length rests')) slim (slice_get_within rests' slim.rest (rest_of row) there)));
-          each_bases = subst (All (has_bases (length bases'))) (sym e)
-              (All-append (has_bases (length bases')) slims (slim ∷ []) before.each_bases (of_one (has_bases (length bases')) slim (slice_get_within bases' slim.bases (bases_of row) bases-there)));
-          each_numbers = subst (All (has_numbers (length long'))) (sym e)
-              (All-append (has_numbers (length long')) slims (slim ∷ []) before.each_numbers (of_one (has_numbers (length long')) slim long-within));
-        }
+-- where what is shared stays, the rows do
+module _ (shared shared' : Shared) (stays : StaysIn shared shared') where
+  pub still_has : (slim : Slim) → HasParts shared slim → HasParts shared' slim
+  still_has slim has = record {
+    rest = omega (arith, has.rest, not_fewer _ _ stays.rests);
+    bases = omega (arith, has.bases, not_fewer _ _ stays.bases);
+    level = omega (arith, has.level, not_fewer _ _ stays.levels);
+    long = omega (arith, has.long, not_fewer _ _ stays.long);
+  }
 
-    pub one_more : map (full_row rests' bases' long') slims' ≡ map (full_row rests bases long) slims ++ row ∷ []
-    one_more =
-        ap (map (full_row rests' bases' long')) e
-        ∙ map_push (full_row rests' bases' long') slims slim
-        ∙ ap₂ (λ rows row. rows ++ row ∷ []) (same_rows slims have)
-        (ap₂ (λ rest own. row_of rest own (full_numbers long' slim) slim) (get_or_from_slice_get rests' slim.rest (rest_of row) no_rest there) (get_or_from_slice_get bases' slim.bases (bases_of row) no_bases bases-there)
-        ∙ ap (λ numbers. row_of (rest_of row) (bases_of row) numbers slim) long-there ∙ is)
+  same_numbers : (slim : Slim) → HasParts shared slim → full_numbers shared' slim ≡ full_numbers shared slim
+  same_numbers slim has =
+      let level = same_at shared.levels.items shared'.levels.items no_level slim.level stays.levels has.level in
+      let short = numbers_in (short_of (level_at shared slim) slim) in
+      let within : slim.long < length (short ∷ shared.long.items) = omega (arith, has.long) in
+      ap (λ level. get_or (numbers_in (short_of level slim) ∷ shared'.long.items) slim.long no_numbers) level
+      ∙ same_at (short ∷ shared.long.items) (short ∷ shared'.long.items) no_numbers slim.long (stays.long.0, ap (λ long. short ∷ long) stays.long.1) within
+
+  same_row : (slim : Slim) → HasParts shared slim → full_row shared' slim ≡ full_row shared slim
+  same_row slim has =
+      let rest = same_at shared.rests.items shared'.rests.items no_rest slim.rest stays.rests has.rest in
+      let bases = same_at shared.bases.items shared'.bases.items no_bases slim.bases stays.bases has.bases in
+      let level : level_at shared' slim ≡ level_at shared slim = same_at shared.levels.items shared'.levels.items no_level slim.level stays.levels has.level in
+      ap₂ (λ rest bases. row_of rest bases (level_at shared' slim).currency (full_numbers shared' slim) slim) rest bases
+      ∙ ap₂ (λ (level : Level) numbers. row_of (get_or shared.rests.items slim.rest no_rest) (get_or shared.bases.items slim.bases no_bases) level.currency numbers slim) level (same_numbers slim has)
+
+  pub same_rows : (slims : List Slim) → All (HasParts shared) slims → map (full_row shared') slims ≡ map (full_row shared) slims
+  same_rows [] have = refl
+  same_rows (slim ∷ slims) have =
+      ap₂ (λ row rows. row ∷ rows) (same_row slim (All-head (HasParts shared) slim slims have)) (same_rows slims (All-tail (HasParts shared) slim slims have))
+
+  pub have_still : (slims : List Slim) → All (HasParts shared) slims → All (HasParts shared') slims
+  have_still slims have = λ k d here. still_has _ (have k d here)
+
+-- ---- a row that is added
+
+-- its parts stand at their places
+module _ (shared : Shared) (slim : Slim) (short : Short) (head : RowHead) (state : State)
+    (rest : slice_get shared.rests.items slim.rest ≡ Some (rest_of state))
+    (bases : slice_get shared.bases.items slim.bases ≡ Some (bases_of state))
+    (level : slice_get shared.levels.items slim.level ≡ Some (level_of short head.currency)) where
+  pub parts_there : slim.long ≤ length shared.long.items → HasParts shared slim
+  parts_there within = record {
+    rest = slice_get_within shared.rests.items slim.rest (rest_of state) rest;
+    bases = slice_get_within shared.bases.items slim.bases (bases_of state) bases;
+    level = slice_get_within shared.levels.items slim.level (level_of short head.currency) level;
+    long = within;
+  }
+
+  level_there : level_at shared slim ≡ level_of short head.currency
+  level_there = get_or_from_slice_get shared.levels.items slim.level (level_of short head.currency) no_level level
+
+  pub numbers_there : slim.payoff ≡ short.payoff → slim.ipac ≡ short.ipac → get_or (numbers_in short ∷ shared.long.items) slim.long no_numbers ≡ numbers_of head state → full_numbers shared slim ≡ numbers_of head state
+  numbers_there payoff ipac numbers =
+      let same : numbers_in (short_of (level_at shared slim) slim) ≡ numbers_in short = simp (level_there, payoff, ipac) refl in
+      ap (λ own. get_or (own ∷ shared.long.items) slim.long no_numbers) same ∙ numbers
+
+  pub row_there : full_numbers shared slim ≡ numbers_of head state → row_of (rest_of state) (bases_of state) head.currency (numbers_of head state) slim ≡ row_with head state → full_row shared slim ≡ row_with head state
+  row_there numbers is =
+      ap₂ (λ rest bases. row_of rest bases (level_at shared slim).currency (full_numbers shared slim) slim)
+      (get_or_from_slice_get shared.rests.items slim.rest (rest_of state) no_rest rest) (get_or_from_slice_get shared.bases.items slim.bases (bases_of state) no_bases bases)
+      ∙ ap₂ (λ (level : Level) numbers. row_of (rest_of state) (bases_of state) level.currency numbers slim) level_there numbers
+      ∙ is
+
+-- ---- how many of each are needed
+
+fits_more : (few many : Counts) (slim : Slim) → IsAtMost few many → FitsIn few slim → FitsIn many slim
+fits_more few many slim more fits = record {
+  rest = omega (arith, fits.rest, more.rests);
+  bases = omega (arith, fits.bases, more.bases);
+  level = omega (arith, fits.level, more.levels);
+  long = omega (arith, fits.long, more.long);
+}
+
+-- rows one more
+pub fit_more : (slims : List Slim) (k : ℕ) (slim : Slim) (few many : Counts) → k < length slims → slim ≡ get_or slims k slim → All (FitsIn few) (take k slims) → IsAtMost few many → FitsIn many slim → All (FitsIn many) (take (k + 1) slims)
+fit_more slims k slim few many within is fit more fits =
+    All-more (FitsIn many) slims k slim within (λ n d below. fits_more few many _ more (fit n d below)) (subst (FitsIn many) is fits)
+
+-- a front of a list
+pub front : {X : Type 0} (xs xs' : List X) (n : ℕ) → xs' ≡ take n xs → BeginsWith xs xs'
+front xs xs' n is = (drop n xs, sym (take-append-drop n xs) ∙ ap (λ front. front ++ drop n xs) (sym is))

@@ -1,45 +1,58 @@
--- Rows of a chunk, whose rests, bases and longer numbers stand apart. This profile's own.
-use Rattle.std.specs.Prelude.{◌≡◌, ℕ, ◌<◌, ◌≤◌, pos, List, ◌∷◌, length, map, None, Some, if◌then◌else◌, get_or}
-use Rattle.std.specs.List.{All}
-use Rattle.act_model.specs.declared.chunk.Bases.{Bases}
-use Rattle.act_model.specs.declared.chunk.Numbers.{Numbers}
-use Rattle.act_model.specs.declared.chunk.Rest.{Rest}
-use Rattle.act_model.specs.declared.chunk.Short.{Short}
-use Rattle.act_model.specs.declared.chunk.Slim.{Slim}
+-- Rows of a chunk, and what they share. This profile's own.
+use Rattle.std.specs.Prelude.{◌≡◌, ℕ, ◌<◌, ◌≤◌, pos, List, ◌∷◌, ◌++◌, length, None, Some, if◌then◌else◌, get_or}
+use Rattle.act_model.specs.declared.shared.Bases.{Bases}
+use Rattle.act_model.specs.declared.shared.Counts.{Counts}
+use Rattle.act_model.specs.declared.shared.Level.{Level}
+use Rattle.act_model.specs.declared.shared.Numbers.{Numbers}
+use Rattle.act_model.specs.declared.shared.Rest.{Rest}
+use Rattle.act_model.specs.declared.shared.Shared.{Shared}
+use Rattle.act_model.specs.declared.shared.Short.{Short}
+use Rattle.act_model.specs.declared.shared.Slim.{Slim}
 use Rattle.act_model.specs.declared.run.Row.{Row}
-use Rattle.act_model.specs.Run.{HaveSameCells, cells_of}
+use Rattle.act_model.specs.declared.run.RowHead.{RowHead}
+use Rattle.act_model.specs.declared.state.State.{State}
 
--- the rest of a row
-abbrev pub rest_of : Row → Rest
-rest_of row = record {
-  md = row.state.md;
-  xd = row.state.xd;
-  ipnr2 = row.state.ipnr2;
-  ipac2 = row.state.ipac2;
-  nsc = row.state.nsc;
-  isc = row.state.isc;
-  prnxt = row.state.prnxt;
-  xa = row.state.xa;
+-- ---- the parts of a row
+
+-- the rest of a state
+abbrev pub rest_of : State → Rest
+rest_of state = record {
+  md = state.md;
+  xd = state.xd;
+  ipnr2 = state.ipnr2;
+  ipac2 = state.ipac2;
+  nsc = state.nsc;
+  isc = state.isc;
+  prnxt = state.prnxt;
+  xa = state.xa;
 }
 
--- the bases of a row
-abbrev pub bases_of : Row → Bases
-bases_of row = record { feac = row.state.feac; ipcb = row.state.ipcb }
+-- the bases of a state
+abbrev pub bases_of : State → Bases
+bases_of state = record { feac = state.feac; ipcb = state.ipcb }
 
 -- the numbers of a row that are printed
-abbrev pub numbers_of : Row → Numbers
-numbers_of row = record { payoff = row.payoff; nt = row.state.nt; ipnr = row.state.ipnr; ipac = row.state.ipac }
+abbrev pub numbers_of : RowHead → State → Numbers
+numbers_of head state = record { payoff = head.payoff; nt = state.nt; ipnr = state.ipnr; ipac = state.ipac }
 
 -- the numbers that short ones are
 abbrev pub numbers_in : Short → Numbers
 numbers_in short = record { payoff = short.payoff; nt = short.nt; ipnr = short.ipnr; ipac = short.ipac }
 
--- a row with a rest, bases and numbers
-abbrev pub row_of : Rest → Bases → Numbers → Slim → Row
-row_of rest bases numbers slim = record {
+-- the level of short numbers, with a currency
+abbrev pub level_of : Short → ℕ → Level
+level_of short currency = record { nt = short.nt; ipnr = short.ipnr; currency = currency }
+
+-- the short numbers of a row with a level
+abbrev pub short_of : Level → Slim → Short
+short_of level slim = record { payoff = slim.payoff; nt = level.nt; ipnr = level.ipnr; ipac = slim.ipac }
+
+-- a row with a rest, bases, a currency and numbers
+abbrev pub row_of : Rest → Bases → ℕ → Numbers → Slim → Row
+row_of rest bases currency numbers slim = record {
   day = slim.day;
   kind = slim.kind;
-  currency = slim.currency;
+  currency = currency;
   payoff = numbers.payoff;
   state = record {
     sd = if slim.has_sd then Some slim.sd else None;
@@ -59,23 +72,36 @@ row_of rest bases numbers slim = record {
   };
 }
 
--- its rest stands among the first, so many
-abbrev pub has_rest : ℕ → Slim → Type 0
-has_rest count slim = slim.rest < count
+-- ---- how many of each rows need
 
--- and its bases
-abbrev pub has_bases : ℕ → Slim → Type 0
-has_bases count slim = slim.bases < count
+-- what a row shares stands among the first, so many of each; its numbers do where they don't stand in it
+pub record FitsIn (counts : Counts) (slim : Slim) : Type 0 where
+  pub rest : slim.rest < counts.rests
+  pub bases : slim.bases < counts.bases
+  pub level : slim.level < counts.levels
+  pub long : slim.long ≤ counts.long
 
--- and its numbers, where they don't stand in it
-abbrev pub has_numbers : ℕ → Slim → Type 0
-has_numbers count slim = slim.long ≤ count
+-- there are at least as many of each
+pub record IsAtMost (few many : Counts) : Type 0 where
+  pub rests : few.rests ≤ many.rests
+  pub bases : few.bases ≤ many.bases
+  pub levels : few.levels ≤ many.levels
+  pub long : few.long ≤ many.long
 
--- the rests, the bases and the longer numbers of rows are there
-pub record HaveParts (rests : List Rest) (bases : List Bases) (long : List Numbers) (slims : List Slim) : Type 0 where
-  pub each_rest : All (has_rest (length rests)) slims
-  pub each_bases : All (has_bases (length bases)) slims
-  pub each_numbers : All (has_numbers (length long)) slims
+-- how many of each there are
+abbrev pub counts_of : Shared → Counts
+counts_of shared = record {
+  rests = length shared.rests.items;
+  bases = length shared.bases.items;
+  levels = length shared.levels.items;
+  long = length shared.long.items;
+}
+
+-- what a row shares is there
+abbrev pub HasParts : Shared → Slim → Type 0
+HasParts shared slim = FitsIn (counts_of shared) slim
+
+-- ---- a row with what it shares
 
 -- the rest of one that has none
 abbrev pub no_rest : Rest
@@ -85,24 +111,36 @@ no_rest = record { md = None; xd = None; ipnr2 = pos 0; ipac2 = pos 0; nsc = pos
 abbrev pub no_bases : Bases
 no_bases = record { feac = pos 0; ipcb = pos 0 }
 
+-- the level of one that has none
+abbrev pub no_level : Level
+no_level = record { nt = pos 0; ipnr = pos 0; currency = 0 }
+
 -- the numbers of one that has none
 abbrev pub no_numbers : Numbers
 no_numbers = record { payoff = pos 0; nt = pos 0; ipnr = pos 0; ipac = pos 0 }
 
+-- a row's level
+abbrev pub level_at : Shared → Slim → Level
+level_at shared slim = get_or shared.levels.items slim.level no_level
+
 -- a row's numbers: its own short ones, or those at its place among longer ones, counted from 1
-abbrev pub full_numbers : List Numbers → Slim → Numbers
-full_numbers long slim = get_or (numbers_in slim.short ∷ long) slim.long no_numbers
+abbrev pub full_numbers : Shared → Slim → Numbers
+full_numbers shared slim = get_or (numbers_in (short_of (level_at shared slim) slim) ∷ shared.long.items) slim.long no_numbers
 
--- a row with its own rest, bases and numbers among some
-abbrev pub full_row : List Rest → List Bases → List Numbers → Slim → Row
-full_row rests bases long slim = row_of (get_or rests slim.rest no_rest) (get_or bases slim.bases no_bases) (full_numbers long slim) slim
+-- a row with its own rest, bases, currency and numbers among what is shared
+abbrev pub full_row : Shared → Slim → Row
+full_row shared slim =
+    row_of (get_or shared.rests.items slim.rest no_rest) (get_or shared.bases.items slim.bases no_bases) (level_at shared slim).currency (full_numbers shared slim) slim
 
--- rows that are printed alike, each with its longer numbers, whatever their rests and bases are
-abbrev pub IsSlimAlike : List Numbers → List Numbers → Slim → Slim → Type 0
-IsSlimAlike long long' one other =
-    (rests rests' : List Rest) (bases bases' : List Bases) → cells_of (full_row rests bases long one) ≡ cells_of (full_row rests' bases' long' other)
+-- ---- what is there stays
 
--- and lists of them
-abbrev pub AreSlimsAlike : List Numbers → List Numbers → List Slim → List Slim → Type 0
-AreSlimsAlike long long' ones others =
-    (rests rests' : List Rest) (bases bases' : List Bases) → HaveSameCells (map (full_row rests bases long) ones) (map (full_row rests' bases' long') others)
+-- a list, and maybe more behind it
+abbrev pub BeginsWith : {X : Type 0} → List X → List X → Type 0
+BeginsWith {X} xs front = (more : List X) × (xs ≡ front ++ more)
+
+-- of each, what was shared before is there at its place
+pub record StaysIn (before after : Shared) : Type 0 where
+  pub rests : BeginsWith after.rests.items before.rests.items
+  pub bases : BeginsWith after.bases.items before.bases.items
+  pub levels : BeginsWith after.levels.items before.levels.items
+  pub long : BeginsWith after.long.items before.long.items

@@ -6,6 +6,12 @@ use Rattle.act_model.specs.declared.event.EventType.{EventType}
 use Rattle.act_model.specs.declared.event.EventType.TheVariants.{TD, MD}
 use Rattle.act_model.specs.declared.run.Close.{Close}
 use Rattle.act_model.specs.declared.run.Row.{Row}
+use Rattle.act_model.specs.declared.run.RowHead.{RowHead}
+use Rattle.act_model.specs.declared.state.State.{State}
+
+-- the row with a head, and with a state behind it
+abbrev pub row_with : RowHead → State → Row
+row_with head state = record { day = head.day; kind = head.kind; currency = head.currency; payoff = head.payoff; state = state }
 
 -- what is printed of a row: day, type, currency and payoff, and of the state the notional, the rate and the interest accrued
 pub record Cells : Type 0 where

@@ -13,6 +13,7 @@ mod observed;
 mod reads;
 mod rows;
 mod run;
+mod shared;
 mod state;
 mod terms;
 
@@ -29,7 +30,7 @@ pub use names::Names;
 pub use observed::{Listed, Obs, ObsKind, Observed, observed_is_last_of_latest_day};
 pub use reads::Reads;
 pub use rows::Rows;
-pub use run::{Close, Plan, PlanFault, Row, Run, Stop};
+pub use run::{Close, Plan, PlanFault, Row, RowHead, Run, Stop};
 pub use state::State;
 pub use terms::{
     Ann, Capfl, Cec, Ceg, Common, Covered, Fee, Futur, Fxout, Kind, Lam, Loan, Nam, Optns, Pam,

@@ -2,10 +2,11 @@
 ghost use Rattle.std.specs.Prelude.{◌≡◌, ◌≤◌, ◌<◌, ◌++◌, [], ◌∷◌, Some, length, map, take, slice_get, min, ◌-◌, ◌/◌, ◌*◌, ◌+◌, IfErr, IfOk, OnOk};
 ghost use Rattle.act_model.specs.Rows.{AreChunks, next_rows, rows_of};
 ghost use Rattle.std.specs.Arc.{arc_value};
-ghost use Rattle.act_model.specs.Run.{HaveSameCells};
+ghost use Rattle.act_model.specs.Run.{HaveSameCells, row_with};
 
 use crate::chunk::Chunk;
-use crate::run::Row;
+use crate::run::{Row, RowHead};
+use crate::state::State;
 use act_num::NoMemory;
 use std::alloc::Global;
 use std::marker::Model;
@@ -73,15 +74,15 @@ impl Rows {
         Ok(Rows { full, last })
     }
 
-    /// Adds a row behind the others. Where memory runs out, the rows are as before.
-    pub fn push(&mut self, row: &Row) -> Result<(), NoMemory>
-        ensures added { OnOk result (self.new ≡ self.old ++ row.now ∷ []) }
+    /// Adds a row behind the others, by its head and its state. Where memory runs out, the rows are as before.
+    pub fn push(&mut self, head: &RowHead, state: &State) -> Result<(), NoMemory>
+        ensures added { OnOk result (self.new ≡ self.old ++ row_with head.now state.now ∷ []) }
         ensures unchanged { IfErr result (λ _. self.new ≡ self.old) }
     {
         if self.last.count() == CHUNK {
             close_chunk(&mut self.full, &mut self.last)?;
         }
-        self.last.push(row)
+        self.last.push(head, state)
     }
 
     /// How many rows there are.
@@ -101,8 +102,7 @@ impl Rows {
         behind(&self.full, &self.last, chunks).row(place - chunks * CHUNK)
     }
 
-    /// How many rows at the beginning of these and of others, up to so many, are found to be printed alike. Numbers that don't
-    /// fit 64 bits aren't compared: the rows before them are all that are found.
+    /// How many rows at the beginning of these and of others, up to so many, are found to be printed alike.
     pub fn count_alike(&self, other: &Rows, most: usize) -> usize
         ensures most { result ≤ most }
         ensures here { result ≤ length self.now }

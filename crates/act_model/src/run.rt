@@ -1,7 +1,7 @@
 //! Plans and runs.
 ghost use Rattle.std.specs.Prelude.{◌≡◌, IfOk};
 ghost use Rattle.std.specs.List.{filter};
-ghost use Rattle.act_model.specs.Run.{may_end};
+ghost use Rattle.act_model.specs.Run.{may_end, row_with};
 ghost use Rattle.act_model.specs.declared.run.PlanFault.TheVariants as faults;
 
 use crate::event::{Event, EventType};
@@ -11,6 +11,19 @@ use act_date::{Day, Frac};
 use act_num::{Fixed, NoMemory};
 use std::alloc::{AllocError, AllocFailed, Global};
 use std::marker::Model;
+
+/// What a row has beside the state: the event, and what it pays.
+#[derive(Clone, Copy)]
+pub struct RowHead {
+    /// The event's day.
+    pub day: Day,
+    /// The event's type.
+    pub kind: EventType,
+    /// The currency of the payoff, by its number.
+    pub currency: u32,
+    /// The payoff, in units of 10^-9.
+    pub payoff: Fixed,
+}
 
 /// What an event pays, and the state that it leaves.
 #[derive(Clone, Copy, PartialEq, Eq)]
@@ -25,6 +38,20 @@ pub struct Row {
     pub payoff: Fixed,
     /// The state after the event.
     pub state: State,
+}
+
+impl Row {
+    /// What it has beside the state.
+    pub fn head(&self) -> RowHead
+        ensures { row_with result self.now.state ≡ self.now }
+    {
+        RowHead {
+            day: self.day,
+            kind: self.kind,
+            currency: self.currency,
+            payoff: self.payoff,
+        }
+    }
 }
 
 // A run of a thousand rows takes at most a quarter of a megabyte.

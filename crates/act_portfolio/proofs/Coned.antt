@@ -8,6 +8,7 @@ use Rattle.std.proofs.lemmas.List.FromFn.{get_or-map-range_with_len, get_or-rang
 use Rattle.std.proofs.lemmas.List.Sorted.{All-permutation}
 use Rattle.std.proofs.lemmas.Option.{unwrap_or-slice_get}
 use Rattle.std.specs.List.{All, flat_map, list_any, range_with_len}
+use Rattle.act_profile.specs.Lists.{insert_once_by}
 use Rattle.act_profile.specs.Reads.{ascending, cone_of, cone_to}
 use Rattle.act_profile.specs.Run.{Contracts}
 use Rattle.act_refs.specs.Ordered.{goes_on, order_of}
@@ -31,6 +32,12 @@ append_in d [] ys (inr is) = is
 append_in d (x ∷ xs) ys (inl (inl same)) = inl same
 append_in d (x ∷ xs) ys (inl (inr later)) = inr (append_in d xs ys (inl later))
 append_in d (x ∷ xs) ys (inr is) = inr (append_in d xs ys (inr is))
+
+-- the cone of a contract without children
+pub over_none : (f : ℕ → List ℕ) (c : ℕ) (children : List ℕ) → length children ≡ 0 → c ∷ [] ≡ ascending (c ∷ flat_map f children)
+unfolding insert_once_by
+over_none f c [] none = refl
+over_none f c (child ∷ children) none = absurd (omega arith)
 
 -- one that is in a joined list is in that of an item
 in_joined : (d : ℕ) (f : ℕ → List ℕ) (xs : List ℕ) → In d (flat_map f xs) → (x : ℕ) × In x xs × In d (f x)

@@ -86,8 +86,18 @@ fn cone_over(
     ensures { IfOk result (λ cone. cone.items
         ≡ ascending (contract ∷ flat_map (λ child. get_or (map (λ c. c.items) cones.now) child []) children.now)) }
 {
+    if children.is_empty() {
+        return alone(alloc, contract);
+    }
     let distinct = distinct(alloc, children)?;
     joined_cones(alloc, &distinct, contract, cones)
+}
+
+/// The cone of a contract without children.
+fn alone(alloc: Global, contract: u32) -> Result<Vec<u32>, NoMemory>
+    ensures { IfOk result (λ cone. cone.items ≡ contract ∷ []) }
+{
+    Ok(vec![in alloc; contract]?)
 }
 
 /// The numbers of a list that stays, ascending, each once.

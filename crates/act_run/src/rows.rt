@@ -3,12 +3,12 @@ ghost use Rattle.std.specs.Prelude.{◌≡◌, ◌+◌, ◌≤◌, length, map, 
 ghost use Rattle.std.specs.Arc.{arc_value};
 ghost use Rattle.act_profile.specs.Built.{IsBuilt};
 ghost use Rattle.act_profile.specs.Plan.{plan_of};
-ghost use Rattle.act_profile.specs.Run.{close_of, row_of, rows_from, stopped_at_once};
+ghost use Rattle.act_profile.specs.Run.{close_of, rows_from, stopped_at_once};
 ghost use Rattle.act_profile.specs.Steps.{currency_of, step_of};
 ghost use Rattle.act_run.specs.Resuming.{state_behind, with_rows};
 
 use act_contract::{advance, currency_of};
-use act_model::{Close, Event, Observed, Plan, Row, Rows, Run, State, Stop, Terms};
+use act_model::{Close, Event, Observed, Plan, RowHead, Rows, Run, State, Stop, Terms};
 use act_num::{Fixed, NoMemory, Steps};
 use std::alloc::Global;
 use std::sync::Arc;
@@ -63,7 +63,7 @@ pub(crate) fn rows_behind<O: Observed, L: Ledger>(
     let mut state = first;
     'events: for event in events {
         match advance(terms, plan, &mut state, event, children, seen, steps) {
-            Ok(payoff) => rows.push(&row_of(terms, children, event, payoff, &state))?,
+            Ok(payoff) => rows.push(&head_of(terms, children, event, payoff), &state)?,
             Err(stop) => {
                 let close = close_of(stop);
                 return Ok(Run { rows, close });
@@ -86,23 +86,16 @@ pub(crate) fn stopped_at_once(alloc: Global, stop: Stop) -> Run
     }
 }
 
-/// The row of an event, by what it pays and the state after it.
+/// The head of an event's row, by what it pays.
 #[inline(always)]
-fn row_of(
-    terms: &Terms,
-    children: &[Arc<Run, Global>],
-    event: &Event,
-    payoff: Fixed,
-    state: &State,
-) -> Row
-    ensures { result ≡ row_of event.now (currency_of terms.now (map arc_value children.now) event.now) (payoff, state.now) }
+fn head_of(terms: &Terms, children: &[Arc<Run, Global>], event: &Event, payoff: Fixed) -> RowHead
+    ensures { result ≡ record { day = event.now.day; kind = event.now.kind; currency = currency_of terms.now (map arc_value children.now) event.now; payoff = payoff } }
 {
-    Row {
+    RowHead {
         day: event.day,
         kind: event.kind,
         currency: currency_of(terms, children, event),
         payoff,
-        state: *state,
     }
 }
 

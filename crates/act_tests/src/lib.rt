@@ -1,4 +1,5 @@
-//! What no table of cases can say: turns that threads take, runs of the desk, a sink of another sort, and calls that answer nothing.
+//! What no table of cases can say: turns that threads take, runs of the desk, a sink of another sort, what the standard output
+//! writes, and calls that answer nothing.
 #![tactic(auto)]
 
 #[cfg(test)]
@@ -7,6 +8,8 @@ mod alone;
 mod desk;
 #[cfg(test)]
 mod narrow;
+#[cfg(test)]
+mod output;
 #[cfg(test)]
 mod quiet;
 #[cfg(test)]

@@ -251,7 +251,7 @@ module _ (portfolio : Accepted) (history : History) (quiet : IsQuiet portfolio h
     append-latest : (c : ℕ) → cached_version after-append c ≡ cached_version history c
     append-latest c = cached-same c history append-mark refl
 
-    append-version : version_of after-append ≡ version_of history + 1
+    pub append-version : version_of after-append ≡ version_of history + 1
     append-version = ap length append-entries ∙ length-append (entries_of history) (entry ∷ [])
 
     pub latest-appended : AreLatest portfolio history → AreLatest portfolio after-append

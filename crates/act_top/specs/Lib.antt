@@ -11,6 +11,7 @@ pub mod Driven
 pub mod Ending
 pub mod Halts
 pub mod Jobs
+pub mod Known
 pub mod Output
 pub mod Played
 pub mod Ready

@@ -1,7 +1,8 @@
 //! The answers to the asks of a script, evaluated on a board and written one after the other.
-ghost use Rattle.std.specs.Prelude.{◌≡◌, ◌∷◌, [], ◌+◌, ◌-◌, ◌≤◌, length, IfOk};
+ghost use Rattle.std.specs.Prelude.{◌≡◌, ◌∷◌, [], ◌+◌, ◌-◌, ◌≤◌, length, IfOk, IfSome};
 ghost use Rattle.std.specs.List.{flat_map, list_all};
 ghost use Rattle.act_model.specs.Journal.{book_of};
+ghost use Rattle.act_model.specs.declared.journal.Asked.TheVariants.{All};
 ghost use Rattle.act_print.specs.Printed.{printed_answer};
 ghost use Rattle.act_print.specs.Text.{answer_text};
 ghost use Rattle.act_profile.specs.Answers.{answers_of};
@@ -9,7 +10,7 @@ ghost use Rattle.act_top.specs.Output.{ends_well, eval_text, items_of, output_of
 ghost use Rattle.act_top.specs.Work.{work_of};
 ghost use Rattle.act_top.specs.Written.{Writes, faults_after};
 
-use crate::driving::{answer, append};
+use crate::driving::{answer, append, unread_since};
 use crate::evaluation::Evaluation;
 use crate::journal::{ask_count, entry_count};
 use crate::rows::no_lines;
@@ -17,7 +18,7 @@ use crate::transcript::{write_answer, write_opening, write_work};
 use crate::writing::Stop;
 use act_board::Board;
 use act_io::Sink;
-use act_model::Step;
+use act_model::{Asked, Step};
 use act_num::{NoMemory, Steps};
 use std::alloc::Global;
 use std::sync::Arc;
@@ -98,19 +99,33 @@ impl Evaluation {
         let contracts = self.portfolio.terms().len();
         let answers = ask_count(&self.script.lines);
         let mut kept = no_lines(alloc, self.names(), contracts, answers)?;
+        // The version at which the kept lines of all contracts were written.
+        let mut at = None;
         let mut ended = true;
         for step in &self.script.lines {
             match step.step {
                 Step::Append(entry) => append(board, entry)?,
                 Step::Ask(asked) => {
                     let answer = answer(alloc, &self.portfolio, board, asked, work, steps)?;
-                    let written = write_answer(out, line, self.names(), &mut kept, &answer);
+                    let known = unread_since(alloc, board, at);
+                    let written = write_answer(out, line, self.names(), &mut kept, &known, &answer);
                     drop(answer);
                     let ends = written?;
                     ended &= ends;
+                    at = written_at(asked, board.version());
                 }
             }
         }
         Ok(ended)
+    }
+}
+
+/// The version at which the lines of all contracts were written, where all were asked for.
+fn written_at(asked: Asked, version: u64) -> Option<u64>
+    ensures { IfSome result (λ at. (at ≡ version) × (asked ≡ All)) }
+{
+    match asked {
+        Asked::All => Some(version),
+        Asked::One(_) => None,
     }
 }

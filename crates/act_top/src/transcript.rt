@@ -1,5 +1,5 @@
 //! The text of a journal and its answers, written part by part.
-ghost use Rattle.std.specs.Prelude.{◌≡◌, ◌≤◌, ◌<◌, ◌^◌, ℕ, true, ◌++◌, length, map, Err, IfOk};
+ghost use Rattle.std.specs.Prelude.{◌≡◌, ◌≤◌, ◌<◌, ◌^◌, ℕ, true, ◌++◌, length, map, Err, IfOk, OnOk};
 ghost use Rattle.std.specs.Arc.{arc_value};
 ghost use Rattle.std.specs.List.{All, flat_map, list_all};
 ghost use Rattle.act_model.specs.Answer.{Reply};
@@ -9,6 +9,7 @@ ghost use Rattle.act_print.specs.Printed.{printed_answer, printed_block};
 ghost use Rattle.act_print.specs.Text.{answer_head_text, answer_text, answers_head_text, block_head_text, block_text, item_text, journal_head_text, text_of};
 ghost use Rattle.act_text.specs.Kept.{AreWrittenWith};
 ghost use Rattle.act_text.specs.Lines.{close_text};
+ghost use Rattle.act_top.specs.Known.{AreKnown, AreRenewed, IsKnown, IsRenewed};
 ghost use Rattle.act_top.specs.Output.{all_end, ends_well, is_end, items_of, work_line};
 ghost use Rattle.act_top.specs.Ready.{answers_text, opening_text, runs_text, shared_runs};
 ghost use Rattle.act_session.specs.Playing.{replies_of};
@@ -220,30 +221,33 @@ fn write_answer_list<K: Sink>(
 {
     let mut ended = true;
     for answer in answers {
-        let ends = write_answer(out, line, names, kept, answer)?;
+        let ends = write_answer(out, line, names, kept, &[], answer)?;
         ended &= ends;
     }
     Ok(ended)
 }
 
 /// Writes an answer, and answers whether each of its blocks ends in `end`. `kept` has the lines of rows that were written last,
-/// here and below.
+/// and `known` is of each contract whether these are known to be its lines here too, as below.
 pub(crate) fn write_answer<K: Sink>(
     out: &mut K,
     line: &mut Vec<u8>,
     names: &Names,
     kept: &mut [RowLines<'_>],
+    known: &[bool],
     answer: &Answer,
 ) -> Result<bool, Stop>
     requires named { All (λ (run : ℕ × Stream). run.0 < length names.now.contracts) answer.now.runs }
     requires kept { AreWrittenWith names.now kept.old }
+    requires known { AreKnown known.now kept.old answer.now.runs }
     ensures text { Writes result (answer_text names.now (printed_answer answer.now)) (K.written out.old) (K.written out.new) }
     ensures ended { IfOk result (λ ended. ended ≡ ends_well answer.now) }
     ensures faults { K.faults out.new ≡ faults_after result (K.faults out.old) }
     ensures kept { AreWrittenWith names.now kept.new }
+    ensures renewed { IfOk result (λ _. AreRenewed answer.now.runs kept.old kept.new) }
 {
     write_answer_head(out, line, answer)?;
-    write_blocks(out, line, names, kept, &answer.runs)
+    write_blocks(out, line, names, kept, known, &answer.runs)
 }
 
 /// Writes the blocks of contracts with their runs, and answers whether each ends in `end`.
@@ -252,18 +256,21 @@ fn write_blocks<K: Sink>(
     line: &mut Vec<u8>,
     names: &Names,
     kept: &mut [RowLines<'_>],
+    known: &[bool],
     runs: &[(u32, Arc<Run, Global>)],
 ) -> Result<bool, Stop>
     requires named { All (λ (run : ℕ × Stream). run.0 < length names.now.contracts) (shared_runs runs.now) }
     requires kept { AreWrittenWith names.now kept.old }
+    requires known { AreKnown known.now kept.old (shared_runs runs.now) }
     ensures text { Writes result (runs_text names.now (shared_runs runs.now)) (K.written out.old) (K.written out.new) }
     ensures ended { IfOk result (λ ended. ended ≡ all_end (shared_runs runs.now)) }
     ensures faults { K.faults out.new ≡ faults_after result (K.faults out.old) }
     ensures kept { AreWrittenWith names.now kept.new }
+    ensures renewed { IfOk result (λ _. AreRenewed (shared_runs runs.now) kept.old kept.new) }
 {
     let mut ended = true;
     for run in runs {
-        let ends = write_block(out, line, names, kept, run.0, &run.1)?;
+        let ends = write_block(out, line, names, kept, known, run.0, &run.1)?;
         ended &= ends;
     }
     Ok(ended)
@@ -275,17 +282,20 @@ fn write_block<K: Sink>(
     line: &mut Vec<u8>,
     names: &Names,
     kept: &mut [RowLines<'_>],
+    known: &[bool],
     contract: u32,
     run: &Arc<Run, Global>,
 ) -> Result<bool, Stop>
     requires contract { contract < length names.now.contracts }
     requires kept { AreWrittenWith names.now kept.old }
+    requires known { IsKnown known.now kept.old contract (arc_value run.now) }
     ensures text { Writes result (block_text names.now (printed_block (contract, arc_value run.now))) (K.written out.old) (K.written out.new) }
     ensures ended { IfOk result (λ ended. ended ≡ is_end (arc_value run.now).close) }
     ensures faults { K.faults out.new ≡ faults_after result (K.faults out.old) }
     ensures kept { AreWrittenWith names.now kept.new }
+    ensures renewed { IfOk result (λ _. IsRenewed known.now contract (arc_value run.now) kept.old kept.new) }
 {
-    write_run(out, line, names, kept, contract, run)?;
+    write_run(out, line, names, kept, known, contract, run)?;
     Ok(is_end(&run.close))
 }
 
@@ -305,17 +315,20 @@ fn write_run<K: Sink>(
     line: &mut Vec<u8>,
     names: &Names,
     kept: &mut [RowLines<'_>],
+    known: &[bool],
     contract: u32,
     run: &Arc<Run, Global>,
 ) -> Result<(), Stop>
     requires contract { contract < length names.now.contracts }
     requires kept { AreWrittenWith names.now kept.old }
+    requires known { IsKnown known.now kept.old contract (arc_value run.now) }
     ensures text { Writes result (block_text names.now (printed_block (contract, arc_value run.now))) (K.written out.old) (K.written out.new) }
     ensures faults { K.faults out.new ≡ faults_after result (K.faults out.old) }
     ensures kept { AreWrittenWith names.now kept.new }
+    ensures renewed { OnOk result (IsRenewed known.now contract (arc_value run.now) kept.old kept.new) }
 {
     write_block_head(out, line, names, contract)?;
-    write_rows(out, names, kept, contract, run)?;
+    write_rows(out, names, kept, known, contract, run)?;
     write_close(out, line, names, &run.close)
 }
 

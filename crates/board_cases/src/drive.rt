@@ -286,7 +286,8 @@ impl Drive {
         };
         let (what, is_right) = match self.board.collect(caller)?.ok()? {
             Collected::Ready(answer) => {
-                let is_right = self.is_answer(&answer, wanted, steps)?;
+                let is_right = self.is_answer(&answer, wanted, steps)?
+                    && self.is_unread(answer.version)?;
                 self.simulation.note(Noted::Collect(caller))?;
                 ("collect: Ready", is_right)
             }
@@ -294,6 +295,14 @@ impl Drive {
             Collected::GivenUp => ("collect: GivenUp", wanted == Collecting::GivenUp),
         };
         self.counts.add(what, is_right)
+    }
+
+    /// Whether the board tells for each contract whether none of the entries behind a version touches its cone.
+    fn is_unread(&mut self, version: u64) -> Option<bool> {
+        let unread = self.board.unread_since(version)?;
+        let entries = self.simulation.entries(self.simulation.version())?;
+        let behind = entries.get(version as usize..)?;
+        Some(self.expected.are_unread(&unread, behind))
     }
 
     /// Whether an answer is that of the ask, and each of its runs is that of the contract over the entries before the ask.

@@ -114,6 +114,17 @@ impl Driven {
         Some(self.board.open_asks(caller))
     }
 
+    /// For each contract, whether no entry behind the first ones touches its cone. None where there are fewer entries, or
+    /// memory runs out.
+    pub fn unread_since(&mut self, version: u64) -> Option<Vec<bool>>
+        ensures portfolio { self.new.portfolio ≡ self.old.portfolio }
+    {
+        if version > self.board.version() {
+            return None;
+        }
+        self.board.unread_since(version).ok()
+    }
+
     /// A caller appends an entry. None where it isn't here.
     pub fn append(&mut self, caller: u32, entry: Obs) -> Option<Result<u64, AppendFault>>
         requires entry { is_entry entry ≡ true }

@@ -2,7 +2,7 @@
 use crate::draws::Entry;
 use crate::driven::{Claimed, Driven};
 use act_board::Collected;
-use act_model::{Answer, Asked, Run};
+use act_model::{Answer, Asked, Obs, Reads, Run};
 use act_num::Steps;
 use act_portfolio::Portfolio;
 use std::alloc::Global;
@@ -88,6 +88,21 @@ impl Expected {
         None
     }
 
+    /// Whether these are, for each contract, whether none of these entries touches its cone.
+    pub fn are_unread(&self, unread: &[bool], entries: &[Entry]) -> bool {
+        let contracts = self.portfolio.terms().len();
+        if unread.len() != contracts {
+            return false;
+        }
+        for contract in 0..contracts {
+            let reads = self.portfolio.reads(contract as u32);
+            if unread[contract] == entries.iter().any(|entry| touches(reads, &entry.says)) {
+                return false;
+            }
+        }
+        true
+    }
+
     /// How many runs were expected so far.
     pub fn count(&self) -> u64 {
         let mut count = 0_u64;
@@ -105,6 +120,14 @@ impl Expected {
             count = count.saturating_add(changes_of(runs));
         }
         count
+    }
+}
+
+/// Whether an entry touches what is read.
+fn touches(reads: &Reads, entry: &Obs) -> bool {
+    match entry {
+        Obs::Rate { code, .. } => reads.codes.contains(code),
+        Obs::Event { contract, .. } => reads.contracts.contains(contract),
     }
 }
 

@@ -40,7 +40,7 @@ fn pairs(alloc: Global, draws: &mut Draws, count: u32, most: u32) -> Option<Vec<
     for made in 0..count {
         for _ in 0..draws.below(most.max(1)) {
             let row = row(draws)?;
-            pair.rows.push(&row).ok()?;
+            pair.rows.push(&row.head(), &row.state).ok()?;
             pair.plain.extend_from_slice(slice::from_ref(&row)).ok()?;
         }
         pairs.push(pair).ok()?;

@@ -289,7 +289,7 @@ fn push_before(rows: &mut Rows, row: &Row, day: Day) -> Result<(), NoMemory>
     ensures { OnOk result (rows.new ≡ rows.old ++ filter (λ r. int_lt r.day day) (row.now ∷ [])) }
 {
     if is_before(row, day) {
-        rows.push(row)?;
+        rows.push(&row.head(), &row.state)?;
     }
     Ok(())
 }

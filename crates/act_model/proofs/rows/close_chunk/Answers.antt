@@ -2,9 +2,8 @@ use Rattle.std.proofs.Common.{◌≡◌, ◌++◌, ◌∷◌, [], List, length, 
 use Rattle.std.specs.Arc.{arc_value}
 use Rattle.std.specs.List.{All}
 use Rattle.std.proofs.lemmas.List.{length-append, length-map, map_push}
-use Rattle.std.proofs.lemmas.List.Elements.{All-append}
+use Rattle.std.proofs.lemmas.List.Elements.{All-push}
 use Rattle.act_model.specs.declared.run.Row.{Row}
-use Rattle.act_model.proofs.Slims.{of_one}
 use Rattle.act_model.proofs.rows.close_chunk.Goals as goal
 
 pub returns-in-Ok-push-clause-chunks : goal.returns-in-Ok-push-clause-chunks
@@ -19,7 +18,7 @@ returns-in-Ok-push-clause-chunks c =
     let none : c.replace.new.dest ≡ [] = search rules in
     record {
       each = subst (All (λ (chunk : List Row). length chunk ≡ 64)) (sym chunks)
-          (All-append (λ (chunk : List Row). length chunk ≡ 64) before (last ∷ []) c.requires.chunks.each (of_one (λ (chunk : List Row). length chunk ≡ 64) last c.requires.long));
+          (All-push (λ (chunk : List Row). length chunk ≡ 64) before last c.requires.chunks.each c.requires.long);
       few = omega (arith, ap length chunks, length-append before (last ∷ []), length-map full arc_value, c.len.ensures, c.if-len-ge-MOST_CHUNKS.false);
       short = omega (arith, ap length none);
     }

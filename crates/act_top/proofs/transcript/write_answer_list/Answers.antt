@@ -5,11 +5,15 @@ use Rattle.std.proofs.Math.Bool.{and_assoc, and-true}
 use Rattle.act_model.specs.Answer.{Reply}
 use Rattle.act_top.specs.Output.{ends_well}
 use Rattle.act_top.specs.Ready.{answers_text}
+use Rattle.act_top.proofs.Known.{nothing-known}
 use Rattle.act_top.proofs.Texts.{drop-next, drop-past, left-all, left-next, left-none, left-part, writes-part}
 use Rattle.act_top.proofs.transcript.write_answer_list.Goals as goal
 
 pub loop-answer-init : goal.loop-answer-init
 loop-answer-init g c = record { text = left-all _ _; ends = refl; faults = refl; kept = c.requires.kept }
+
+pub write_answer-requires-clause-known : goal.write_answer-requires-clause-known
+write_answer-requires-clause-known g c = nothing-known _ _
 
 pub loop-answer-preserved : goal.loop-answer-preserved
 loop-answer-preserved g c =

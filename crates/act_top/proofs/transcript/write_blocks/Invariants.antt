@@ -1,6 +1,7 @@
-use Rattle.std.proofs.Common.{◌≡◌, drop}
+use Rattle.std.proofs.Common.{◌≡◌, drop, take}
 use Rattle.std.specs.Prelude.{◌&&◌}
 use Rattle.act_text.specs.Kept.{AreWrittenWith}
+use Rattle.act_top.specs.Known.{AreKnown, AreRenewed}
 use Rattle.act_top.specs.Output.{all_end}
 use Rattle.act_top.specs.Ready.{runs_text, shared_runs}
 use Rattle.act_top.proofs.Texts.{Left}
@@ -13,4 +14,6 @@ invariant-loop-run g l = record {
   ends : (l.ended && all_end (shared_runs (drop l.run-index l.runs))) ≡ all_end (shared_runs l.runs);
   faults : g.K.Sink.faults l.out ≡ g.K.Sink.faults l.fn.out;
   kept : AreWrittenWith l.names l.kept;
+  known : AreKnown l.known l.kept (shared_runs (drop l.run-index l.runs));
+  renewed : AreRenewed (shared_runs (take l.run-index l.runs)) l.fn.kept l.kept;
 }

@@ -2,6 +2,7 @@ use Rattle.std.proofs.Common.{◌∙◌, ap}
 use Rattle.std.specs.Arc.{arc_value}
 use Rattle.act_model.specs.Run.{Stream}
 use Rattle.act_top.proofs.Blocks.{block-parts}
+use Rattle.act_top.proofs.Known.{ok-so}
 use Rattle.act_top.proofs.Texts.{part-behind, part-first, then-text, writes-behind, writes-first}
 use Rattle.act_top.proofs.transcript.write_run.Goals as goal
 
@@ -21,3 +22,6 @@ returns-clause-text g c =
     let close = ap (λ (run : Stream). run.close) (c.behind-run.view_is ∙ c.deref.ensures) in
     rw (block-parts c.args.names.now c.args.contract (arc_value c.args.run.now))
     (writes-behind c.write_close.result _ _ _ _ _ (then-text _ _ _ _ _ c.in_ok-write_block_head.ensures.text c.in_ok-write_rows.ensures.text) (rw close at c.write_close.ensures.text))
+
+pub returns-clause-renewed : goal.returns-clause-renewed
+returns-clause-renewed g c = ok-so c.write_close.result _ c.in_ok-write_rows.ensures.renewed
