@@ -73,23 +73,31 @@ fn is_same(pair: &Pair) -> bool {
     true
 }
 
-/// A row whose amounts are drawn.
+/// A payoff that is drawn: each eighth time one that doesn't fit 64 bits.
+fn payoff(draws: &mut Draws) -> Option<Fixed> {
+    if draws.below(8) == 0 {
+        return Fixed::from_units(i128::from(draws.below(1_000)) * (1 << 64));
+    }
+    draws.amount()
+}
+
+/// A row whose days and amounts are drawn.
 fn row(draws: &mut Draws) -> Option<Row> {
-    let (day, payoff) = (draws.day()?, draws.amount()?);
+    let (day, payoff) = (draws.day()?, payoff(draws)?);
     let payment = Fixed::from_units(i128::from(draws.below(2)))?;
     let state = State {
-        sd: Some(day),
-        md: None,
+        sd: (draws.below(2) == 0).then_some(day),
+        md: draws.day(),
         xd: None,
         nt: draws.amount()?,
         ipnr: Fixed::ZERO,
-        ipac: Fixed::ZERO,
+        ipac: draws.amount()?,
         ipnr2: Fixed::ZERO,
         ipac2: Fixed::ZERO,
-        feac: Fixed::ZERO,
+        feac: draws.amount()?,
         nsc: Fixed::ZERO,
         isc: Fixed::ZERO,
-        ipcb: Fixed::ZERO,
+        ipcb: draws.amount()?,
         prnxt: payment,
         xa: Fixed::ZERO,
     };
