@@ -1,7 +1,7 @@
 -- What is said of a text.
-use Rattle.std.proofs.Common.{◌≡◌, ℕ, ◌+◌, ◌≤◌, arith, inl, inr, List, [], ◌∷◌, length, None, Some, Ok, Err, refl, sym, ap, subst, ◌∙◌}
+use Rattle.std.proofs.Common.{◌≡◌, ◌⊎◌, ℕ, ◌+◌, ◌≤◌, arith, inl, inr, List, [], ◌∷◌, length, None, Some, Ok, Err, refl, sym, ap, subst, ◌∙◌}
 use Rattle.act_audit.specs.Ending.{ComputesAsEval}
-use Rattle.act_audit.specs.Journal.{IsTextOfJournal, as_one_caller}
+use Rattle.act_audit.specs.Journal.{IsTextOfJournal, as_one_caller, first_past}
 use Rattle.act_audit.specs.Judging.{IsRightText, IsVerdictFor}
 use Rattle.act_audit.specs.Order.{IsFirstDisorder, IsOfScripts}
 use Rattle.act_audit.proofs.Orders.{no-disorder}
@@ -15,7 +15,8 @@ use Rattle.act_model.specs.Names.{NameLists}
 use Rattle.act_model.specs.declared.journal.Item.{Item}
 use Rattle.act_model.specs.declared.journal.Line.{Line}
 use Rattle.act_portfolio.specs.Reading.{Accepted}
-use Rattle.act_print.specs.Faults.{IsFirstFault, lines_of}
+use Rattle.act_print.specs.Faults.{IsFirstFault, IsTextOf, lines_of}
+use Rattle.act_print.specs.Printed.{Transcript}
 use Rattle.act_print.specs.Reading.{Lines, Reading, journal_at}
 use Rattle.act_print.proofs.Readers.{ok_is}
 use Rattle.act_top.specs.Scripts.{Scripts}
@@ -29,6 +30,19 @@ same-contracts names (line ∷ lines) = same-contracts (with_code names (code_in
     by : (code : _) → (with_code names code).contracts ≡ names.contracts
     by None = refl
     by (Some code) = refl
+
+-- a text whose journal is too much isn't right: it is no text, or it is too much in that line
+pub past-verdict : (portfolio : Accepted) (names : NameLists) (text : List ℕ) (scripts : List (List Line)) (items : List Item) (line : ℕ) → first_past portfolio items ≡ Some line → (verdict : Verdict)
+    → (here : ℕ) × (verdict ≡ Wrong here) × (IsFirstFault names (text_in text) here ⊎ (((printed : Transcript) × IsTextOf names (text_in text) printed) × (here ≡ line)))
+    → IsVerdictFor portfolio names text scripts items verdict
+past-verdict portfolio names text scripts items line past verdict told =
+    subst (IsVerdictFor portfolio names text scripts items) (sym told.1) (
+      (λ right. absurd (let never = sym past ∙ right.within in cc)),
+      elim told.2 [
+        | inl fault ↦ inl fault
+        | inr text-is ↦ inr (text-is.0, inl (past ∙ ap Some (sym text-is.1)))
+      ],
+    )
 
 -- the parts of what is to be judged, and the names that its text is read with
 pub record IsOf (job : AuditJob) (portfolio : Accepted) (names : NameLists) (text : List ℕ) (lists : List (List Line)) : Type 0 where

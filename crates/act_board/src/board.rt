@@ -145,8 +145,8 @@ impl Board {
         self.book.len()
     }
 
-    /// Of each contract whether its evaluation reads none of the entries behind the first ones, so many: its run over these and
-    /// its run over all are the same then.
+    /// For each contract, whether none of the entries behind the first ones, so many, touches its cone; its run over the first
+    /// ones is then that over all.
     pub fn unread_since(&mut self, version: u64) -> Result<Vec<bool>, NoMemory>
         requires { version ≤ version_of self.old }
         ensures count { IfOk result (λ unread. length unread.items ≡ length self.old.portfolio.contracts.terms) }

@@ -64,6 +64,17 @@ pub(crate) fn place_of(pairs: &[Pair], version: u64, rank: u32) -> usize
     requires sorted { AreSorted pairs.now }
     ensures { IsPlaceOf pairs.now version rank result }
 {
+    match pairs.last() {
+        Some(last) if is_before(last, version, rank) => pairs.len(),
+        _ => place_by_halving(pairs, version, rank),
+    }
+}
+
+/// The same place, where the pairs are halved until it is found.
+fn place_by_halving(pairs: &[Pair], version: u64, rank: u32) -> usize
+    requires sorted { AreSorted pairs.now }
+    ensures { IsPlaceOf pairs.now version rank result }
+{
     let mut low = 0;
     let mut high = pairs.len();
     while low < high {
@@ -86,6 +97,27 @@ fn is_of(pair: &Pair, version: u64, rank: u32) -> bool
 
 /// The place of the pair of a version and a rank, where there is one.
 pub(crate) fn find(pairs: &[Pair], version: u64, rank: u32) -> Option<usize>
+    requires sorted { AreSorted pairs.now }
+    ensures { MatchOption result (¬ (IsListed pairs.now version rank)) (λ place. HasAt pairs.now version rank place) }
+{
+    let near = place_near(pairs, rank);
+    if near < pairs.len() && is_of(&pairs[near], version, rank) {
+        return Some(near);
+    }
+    search(pairs, version, rank)
+}
+
+/// The place where a rank stands if the last pairs are of the ranks one after another, as they are once all contracts were asked
+/// for.
+fn place_near(pairs: &[Pair], rank: u32) -> usize {
+    match pairs.last() {
+        Some(last) => (pairs.len() - 1).saturating_sub(last.rank.saturating_sub(rank) as usize),
+        None => 0,
+    }
+}
+
+/// The same by a binary search.
+fn search(pairs: &[Pair], version: u64, rank: u32) -> Option<usize>
     requires sorted { AreSorted pairs.now }
     ensures { MatchOption result (¬ (IsListed pairs.now version rank)) (λ place. HasAt pairs.now version rank place) }
 {

@@ -1,4 +1,4 @@
-//! What was appended to a book and isn't read.
+//! Which contracts' cones the newest entries of a book don't touch.
 ghost use Rattle.std.specs.Prelude.{◌≡◌, ◌≤◌, ℕ, Bool, length, not, take, true, Some, is_some, IfOk};
 ghost use Rattle.std.specs.List.{slice_get};
 ghost use Rattle.act_profile.specs.Reads.{cut_of};
@@ -9,8 +9,8 @@ use act_num::NoMemory;
 use act_portfolio::Portfolio;
 use std::alloc::Global;
 
-/// Of each contract whether its evaluation reads none of a book's entries behind the first ones, so many: its run over these
-/// and its run over all are the same then.
+/// For each contract, whether none of a book's entries behind the first ones, so many, touches its cone; its run over the first
+/// ones is then that over all.
 pub(crate) fn unread_since(
     alloc: Global,
     portfolio: &Portfolio,

@@ -7,7 +7,7 @@ ghost use Rattle.act_book.specs.declared.book.BookFault.TheVariants.{BookFull};
 
 use crate::recent::{PART, count_of, with_run};
 use crate::run::Run;
-use crate::snapshot::Snapshot;
+use crate::snapshot::{Seen, Snapshot};
 use act_model::{MOST_ENTRIES, Obs};
 use act_num::NoMemory;
 use std::alloc::Global;
@@ -140,7 +140,8 @@ impl Book {
         requires within { v ≤ length self.now }
         ensures { IfOk result (λ seen. seen ≡ take v self.now) }
     {
-        Snapshot::first(&self.entries, &self.runs, &self.recent, v)
+        let seen = Seen::first(&self.entries, &self.runs, &self.recent, v)?;
+        Snapshot::of(*self.entries.allocator(), seen)
     }
 }
 

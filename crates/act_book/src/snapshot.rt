@@ -17,9 +17,25 @@ use std::alloc::Global;
 use std::marker::Model;
 use std::sync::Arc;
 
-/// The first entries of a book. It shares runs with the book, and has a copy of the entries behind them.
+/// The first entries of a book, as they stay whatever is added to it. Copies share them.
 #[derive(Drop)]
 pub struct Snapshot {
+    seen: Arc<Seen, Global>,
+}
+
+impl Model for Snapshot {
+    ghost use Rattle.std.specs.Prelude.{List};
+    ghost use Rattle.std.specs.Arc.{arc_value};
+    ghost use Rattle.act_model.specs.declared.observed.Obs.{Obs};
+
+    ghost Value = { List Obs };
+
+    ghost view = { λ s. arc_value s.seen };
+}
+
+/// What a snapshot sees. It shares runs with the book, and has a copy of the entries behind them.
+#[derive(Drop)]
+pub(crate) struct Seen {
     version: u64,
     /// Runs of the book, one behind another.
     runs: Vec<Arc<Run, Global>>,
@@ -27,7 +43,7 @@ pub struct Snapshot {
     rest: Vec<Obs>,
 }
 
-impl Model for Snapshot {
+impl Model for Seen {
     ghost use Rattle.std.specs.Prelude.{◌≡◌, List, ◌++◌, length};
     ghost use Rattle.act_model.specs.declared.observed.Obs.{Obs};
     ghost use Rattle.act_book.specs.Entries.{AreEntries};
@@ -41,13 +57,63 @@ impl Model for Snapshot {
 }
 
 impl Snapshot {
+    /// A snapshot that sees this.
+    pub(crate) fn of(alloc: Global, seen: Seen) -> Result<Snapshot, NoMemory>
+        ensures { IfOk result (λ snapshot. snapshot ≡ seen) }
+    {
+        Ok(Snapshot {
+            seen: Arc::new(alloc, seen)?,
+        })
+    }
+
+    /// The same entries, which it shares with this one.
+    pub fn shared(&self) -> Result<Snapshot, NoMemory>
+        ensures { IfOk result (λ shared. shared ≡ self.now) }
+    {
+        Ok(Snapshot {
+            seen: Arc::try_clone(&self.seen)?,
+        })
+    }
+}
+
+impl Observed for Snapshot {
+    ghost entries = { λ s. s };
+
+    #[inline]
+    fn version(&self) -> u64 {
+        self.seen.version()
+    }
+
+    #[inline]
+    fn entry(&self, place: u64) -> Option<Obs>
+        ensures place { result ≡ slice_get self.now place }
+        ensures entry { IfSome result (λ entry. is_entry entry ≡ true) }
+    {
+        self.seen.entry(place)
+    }
+
+    #[inline]
+    fn value(&self, code: u32, day: Day) -> Option<Fixed> {
+        self.seen.value(code, day)
+    }
+
+    #[inline]
+    fn events_of(&self, alloc: Global, contract: u32) -> Result<Vec<Obs>, NoMemory>
+        ensures events { IfOk result (λ events. events.items ≡ observed_events self.now contract) }
+        ensures entries { IfOk result (λ events. AreEntries events.items) }
+    {
+        self.seen.events_of(alloc, contract)
+    }
+}
+
+impl Seen {
     /// The first `v` entries of a book, whose runs it shares. `recent` has the runs behind those that end with chunks.
     pub(crate) fn first(
         entries: &Vec<Obs>,
         runs: &[Arc<Run, Global>],
         recent: &[Arc<Run, Global>],
         v: u64,
-    ) -> Result<Snapshot, NoMemory>
+    ) -> Result<Seen, NoMemory>
         requires within { v ≤ length entries.now.items }
         requires most { length entries.now.items ≤ most_entries }
         requires entries { AreEntries entries.now.items }
@@ -63,7 +129,7 @@ impl Snapshot {
             end += push_within(&mut shared, recent, v - end)?;
         }
         let rest = entries[end..v].to_vec(*entries.allocator())?;
-        Ok(Snapshot {
+        Ok(Seen {
             version: v as u64,
             runs: shared,
             rest,
@@ -92,7 +158,7 @@ fn runs_until(
     Ok(shared)
 }
 
-impl Observed for Snapshot {
+impl Observed for Seen {
     ghost entries = { λ s. s };
 
     fn version(&self) -> u64 {

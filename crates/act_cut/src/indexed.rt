@@ -24,10 +24,13 @@ pub struct IndexedBook {
     changes: Changes,
     /// How many these are.
     reached: u64,
+    /// The snapshot that was asked for last.
+    latest: Option<Snapshot>,
 }
 
 impl Model for IndexedBook {
-    ghost use Rattle.std.specs.Prelude.{◌≤◌, List, length, take};
+    ghost use Rattle.std.specs.Prelude.{◌≡◌, ◌≤◌, List, length, take};
+    ghost use Rattle.std.specs.Option.{ForSome};
     ghost use Rattle.act_model.specs.declared.observed.Obs.{Obs};
     ghost use Rattle.act_cut.specs.Lows.{AreChanges};
 
@@ -35,7 +38,8 @@ impl Model for IndexedBook {
 
     ghost view = { λ b. b.book };
 
-    ghost invariant = { λ b. (b.reached ≤ length b.book) × AreChanges (take b.reached b.book) b.changes };
+    ghost invariant = { λ b. (b.reached ≤ length b.book) × AreChanges (take b.reached b.book) b.changes
+        × ForSome b.latest (λ seen. (length seen ≤ length b.book) × (seen ≡ take (length seen) b.book)) };
 }
 
 impl IndexedBook {
@@ -53,6 +57,7 @@ impl IndexedBook {
             book: Book::new(alloc),
             changes,
             reached: 0,
+            latest: None,
         }
     }
 
@@ -76,12 +81,21 @@ impl IndexedBook {
         self.book.append(entry)
     }
 
-    /// The first `v` entries, as they stay whatever is added later.
-    pub fn snapshot(&self, v: u64) -> Result<Snapshot, NoMemory>
-        requires within { v ≤ length self.now }
-        ensures { IfOk result (λ seen. seen ≡ take v self.now) }
+    /// The first `v` entries, as they stay whatever is added later. The snapshot that was asked for last is kept, and shared with
+    /// those that are asked for at the same version.
+    pub fn snapshot(&mut self, v: u64) -> Result<Snapshot, NoMemory>
+        requires within { v ≤ length self.old }
+        ensures seen { IfOk result (λ seen. seen ≡ take v self.old) }
+        ensures same { self.new ≡ self.old }
     {
-        self.book.snapshot(v)
+        if let Some(latest) = &self.latest
+            && latest.version() == v
+        {
+            return latest.shared();
+        }
+        let seen = self.book.snapshot(v)?;
+        self.latest = Some(seen.shared()?);
+        Ok(seen)
     }
 
     /// The cut from version `from` to version `to` for a contract that reads this, as [`cut`] finds it: by going over the entries

@@ -1,22 +1,27 @@
-//! The standard output of the system, which is written in large pieces. It tells nothing of what was written.
+//! The standard output of the system, which gathers small pieces. It tells nothing of what was written.
 ghost use Rattle.std.specs.Prelude.{◌≡◌, ◌≢◌, [], None, Ok, Err, length};
-ghost use Rattle.act_io.specs.declared.sink.PutFault.TheVariants.{NoMemory};
+ghost use Rattle.act_io.specs.declared.sink.PutFault.TheVariants.{Failed, NoMemory};
+ghost use Rattle.act_io.specs.Faults.{next_count};
 ghost use Rattle.act_io.specs.Gathered.{Gathers};
 ghost use Rattle.act_io.specs.Put.{Puts, put_faults};
 
 use crate::{PutFault, Sink};
 use std::alloc::Global;
+use std::io::ErrorKind;
 use std::marker::Model;
 
 /// How many bytes there is room for, once a piece has come: 64 KiB.
 const ROOM: usize = 65_536;
 
-/// A piece of so many bytes and more is written at once: to copy it would take longer than a call of the system.
+/// A piece of so many bytes and more isn't gathered.
 const LARGE: usize = 4_096;
 
+/// How often a write that is interrupted is tried.
+const TRIES: u32 = 1_000;
+
 /// The standard output. What it takes is gathered, up to some 64 KiB, and written once and in order: where the next piece
-/// doesn't fit behind it, and by [`StdSink::finish`]. Contracts see what is gathered and the count of faults. A write that
-/// takes nothing is a fault.
+/// doesn't fit behind it, before a piece of 4 KiB and more, which is written at once, and by [`StdSink::finish`]. Contracts
+/// see what is gathered and the count of faults. A write that takes nothing is a fault.
 #[derive(Drop)]
 pub struct StdSink<'a, R: Print> {
     rt: &'a R,
@@ -54,16 +59,26 @@ impl<'a, R: Print> StdSink<'a, R> {
         let written = self.rt.write_all(&self.gathered);
         self.gathered.clear();
         if written.is_err() {
-            self.faults = self.faults.saturating_add(1);
-            return Err(PutFault::Failed);
+            return Err(self.failed());
         }
         Ok(())
     }
 
-    /// Takes the first bytes of a piece that isn't empty, and for which there is no room behind what is gathered.
+    /// Counts a write that failed, and gives its fault.
+    fn failed(&mut self) -> PutFault
+        ensures fault { result ≡ Failed }
+        ensures gathered { self.new.gathered ≡ self.old.gathered }
+        ensures faults { self.new.faults ≡ next_count self.old.faults }
+    {
+        self.faults = self.faults.saturating_add(1);
+        PutFault::Failed
+    }
+
+    /// Takes the first bytes of a piece that isn't empty, and that is large or for which there is no room behind what is
+    /// gathered. What is gathered is written first.
     #[cold]
     #[inline(never)]
-    fn put_past_room(&mut self, piece: &[u8]) -> Result<usize, PutFault>
+    fn put_behind(&mut self, piece: &[u8]) -> Result<usize, PutFault>
         ensures took { Puts piece.now None None result }
         ensures gathered { Gathers piece.now self.old.gathered self.new.gathered result }
         ensures memory { result ≢ Err NoMemory }
@@ -86,11 +101,14 @@ impl<'a, R: Print> StdSink<'a, R> {
         ensures memory { result ≢ Err NoMemory }
         ensures faults { self.new.faults ≡ put_faults result self.old.faults }
     {
-        if self.rt.write_all(piece).is_err() {
-            self.faults = self.faults.saturating_add(1);
-            return Err(PutFault::Failed);
+        for _ in 0..TRIES {
+            match self.rt.write_some(piece) {
+                Ok(count) if count > 0 => return Ok(count),
+                Err(error) if error.kind() == ErrorKind::Interrupted => {}
+                _ => break,
+            }
         }
-        Ok(piece.len())
+        Err(self.failed())
     }
 }
 
@@ -99,8 +117,8 @@ impl<R: Print> Sink for StdSink<'_, R> {
 
     ghost faults = { λ s. s.faults };
 
-    /// Where a piece doesn't fit, what is gathered is written first. Where there is no memory for it, it is then written at
-    /// once.
+    /// Where a piece is large or doesn't fit, what is gathered is written first. The piece is then written at once where it is
+    /// large, or where there is no memory to gather it; perhaps only its first bytes.
     #[inline]
     fn put(&mut self, piece: &[u8]) -> Result<usize, PutFault>
         ensures took { Puts piece.now None None result }
@@ -119,7 +137,7 @@ impl<R: Print> Sink for StdSink<'_, R> {
         {
             return Ok(piece.len());
         }
-        self.put_past_room(piece)
+        self.put_behind(piece)
     }
 
     /// Takes lines together, as one piece.

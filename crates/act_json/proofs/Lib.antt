@@ -1,4 +1,5 @@
-pub mod Found
 pub mod Pieces
 pub mod Readings
 pub mod Lengths
+pub mod Trees
+pub mod TreeNames

@@ -1,5 +1,5 @@
 pub mod Fields
-pub mod Listed
 pub mod Quoting
 pub mod Reading
 pub mod Results
+pub mod Tree

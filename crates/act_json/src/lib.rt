@@ -4,12 +4,12 @@
 
 mod fault;
 mod fields;
-mod members;
 mod quoting;
 mod reading;
+mod tree;
 
 pub use fault::JsonFault;
 pub use fields::{cycle, day, decimal, period, required, text, text_in, word};
-pub use members::Members;
 pub use quoting::{is_quoted, quote};
 pub use reading::read;
+pub use tree::{Object, items_of, member, read_tree, text_within};

@@ -20,7 +20,7 @@ precedes_chain x y z first second = grind (arith, ints, nat_tests)
 pub precedes_is_order : IsStrictWeakOrder precedes
 precedes_is_order = record { one_way = precedes_one_way; chain = precedes_chain }
 
-in_order-ascends : (events : List Event) → Ascends precedes (in_order events)
+pub in_order-ascends : (events : List Event) → Ascends precedes (in_order events)
 unfolding in_order
 in_order-ascends [] = tt
 in_order-ascends (event ∷ events) = ascends-insert precedes precedes_is_order event (in_order events) (in_order-ascends events)
@@ -52,3 +52,9 @@ pub only_in_order : (events sorted : List Event) → IsSortedBy precedes sorted 
 only_in_order events sorted up stable =
     same_order precedes precedes_is_order sorted (in_order events) (ascends-from_sorted precedes precedes_is_order sorted up) (in_order-ascends events)
     (λ z. stable z ∙ sym (in_order-stable events z))
+
+-- what is in order stays so
+pub in_order-again : (events : List Event) → in_order (in_order events) ≡ in_order events
+in_order-again events =
+    same_order precedes precedes_is_order (in_order (in_order events)) (in_order events) (in_order-ascends (in_order events)) (in_order-ascends events)
+    (in_order-stable (in_order events))

@@ -12,7 +12,7 @@ mod trade;
 pub use dates::{
     recurrence, recurrence_or_end, recurring, recurring_before, recurring_or_end_after, united,
 };
-pub use order::{is_unpaid, order_law, put_in_order, retain_counting};
+pub use order::{counting, is_unpaid, order_law, put_in_order, retain_counting};
 pub use planned::{Planned, events_by_type, shifting, unshifted};
 pub use sign::{opposite, signed};
 pub use table::{Payment, Table, advance, take_step};

@@ -1,6 +1,6 @@
 //! The order of events, and which of them count.
-ghost use Rattle.std.specs.Prelude.{◌≡◌, ◌&&◌, List, false, take, IfOk, IfErr};
-ghost use Rattle.std.specs.List.{AllPairs, filter, list_any};
+ghost use Rattle.std.specs.Prelude.{◌≡◌, ◌≤◌, ◌&&◌, not, List, false, length, take, IfOk, IfErr};
+ghost use Rattle.std.specs.List.{AllPairs, filter, list_any, prefix_len};
 ghost use Rattle.std.specs.List.Sorted.{IsPermutation, IsStableBy};
 ghost use Rattle.std.specs.Ordering.{is_lt};
 ghost use Rattle.act_model.specs.declared.event.Event.{Event};
@@ -101,6 +101,26 @@ pub fn retain_counting(terms: &Terms, mut events: Vec<Event>) -> Vec<Event>
     events
 }
 
+/// Of events in order those that count, as a part of the list itself: what [`retain_counting`] keeps.
+pub fn counting<'a>(terms: &Terms, events: &'a [Event]) -> &'a [Event]
+    requires { in_order events.now ≡ events.now }
+    ensures { result.now ≡ counting terms.now.common.status_date terms.now.kind events.now }
+{
+    let until_end = &events[..count_to_end(&terms.kind, events)];
+    &until_end[count_early(terms.common.status_date, &terms.kind, until_end)..]
+}
+
+/// How many events stand before the first whose day counts.
+fn count_early(status: Day, kind: &Kind, events: &[Event]) -> usize
+    ensures count { result ≡ prefix_len (λ e. not (counts status kind.now e.day)) events.now }
+    ensures within { result ≤ length events.now }
+{
+    events
+        .iter()
+        .take_while(|event| !counts(status, kind, event.day))
+        .count()
+}
+
 /// Keeps the events whose day counts.
 fn keep_counting(status: Day, kind: &Kind, events: &mut Vec<Event>)
     ensures { events.new.items ≡ filter (λ e. counts status kind.now e.day) events.old.items }
@@ -110,7 +130,8 @@ fn keep_counting(status: Day, kind: &Kind, events: &mut Vec<Event>)
 
 /// How many events there are up to the first that ends the contract.
 fn count_to_end(kind: &Kind, events: &[Event]) -> usize
-    ensures { take result events.now ≡ up_to_end kind.now events.now }
+    ensures taken { take result events.now ≡ up_to_end kind.now events.now }
+    ensures within { result ≤ length events.now }
 {
     'events: for (place, event) in events.iter().enumerate() {
         if ends(kind, event) {

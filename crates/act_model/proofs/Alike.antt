@@ -8,8 +8,8 @@ use Rattle.act_model.specs.Chunk.{full_numbers, full_row, level_at}
 use Rattle.act_model.specs.Run.{Cells, HaveSameCells, cells_of}
 use Rattle.act_model.specs.contracts.event.EventType.{the_type}
 use Rattle.act_model.specs.declared.event.EventType.{EventType}
-use Rattle.act_model.specs.declared.shared.Level.{Level}
-use Rattle.act_model.specs.declared.shared.Numbers.{Numbers}
+use Rattle.act_model.specs.declared.numbers.Level.{Level}
+use Rattle.act_model.specs.declared.numbers.Numbers.{Numbers}
 use Rattle.act_model.specs.declared.shared.Shared.{Shared}
 use Rattle.act_model.specs.declared.shared.Slim.{Slim}
 use Rattle.act_model.proofs.Slims.{both}

@@ -11,10 +11,10 @@ use Rattle.act_model.specs.Chunk.{BeginsWith, FitsIn, HasParts, IsAtMost, StaysI
 use Rattle.act_model.specs.Run.{row_with}
 use Rattle.act_model.specs.declared.run.RowHead.{RowHead}
 use Rattle.act_model.specs.declared.shared.Counts.{Counts}
-use Rattle.act_model.specs.declared.shared.Level.{Level}
+use Rattle.act_model.specs.declared.numbers.Level.{Level}
 use Rattle.act_model.specs.declared.shared.Rest.{Rest}
 use Rattle.act_model.specs.declared.shared.Shared.{Shared}
-use Rattle.act_model.specs.declared.shared.Short.{Short}
+use Rattle.act_model.specs.declared.numbers.Short.{Short}
 use Rattle.act_model.specs.declared.shared.Slim.{Slim}
 use Rattle.act_model.specs.declared.state.State.{State}
 

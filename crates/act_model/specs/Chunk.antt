@@ -2,11 +2,11 @@
 use Rattle.std.specs.Prelude.{◌≡◌, ℕ, ◌<◌, ◌≤◌, pos, List, ◌∷◌, ◌++◌, length, None, Some, if◌then◌else◌, get_or}
 use Rattle.act_model.specs.declared.shared.Bases.{Bases}
 use Rattle.act_model.specs.declared.shared.Counts.{Counts}
-use Rattle.act_model.specs.declared.shared.Level.{Level}
-use Rattle.act_model.specs.declared.shared.Numbers.{Numbers}
+use Rattle.act_model.specs.declared.numbers.Level.{Level}
+use Rattle.act_model.specs.declared.numbers.Numbers.{Numbers}
 use Rattle.act_model.specs.declared.shared.Rest.{Rest}
 use Rattle.act_model.specs.declared.shared.Shared.{Shared}
-use Rattle.act_model.specs.declared.shared.Short.{Short}
+use Rattle.act_model.specs.declared.numbers.Short.{Short}
 use Rattle.act_model.specs.declared.shared.Slim.{Slim}
 use Rattle.act_model.specs.declared.run.Row.{Row}
 use Rattle.act_model.specs.declared.run.RowHead.{RowHead}

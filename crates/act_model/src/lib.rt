@@ -9,6 +9,7 @@ mod journal;
 mod limits;
 mod name;
 mod names;
+mod numbers;
 mod observed;
 mod reads;
 mod rows;

@@ -6,9 +6,10 @@ ghost use Rattle.act_model.specs.Names.{AreFew, no_names, number_of, place_of, w
 
 use crate::limits::MOST_NAMES;
 use act_num::NoMemory;
-use std::alloc::Global;
+use std::alloc::{AllocError, Global};
 use std::collections::BTreeMap;
 use std::marker::Model;
+use std::sync::Arc;
 
 /// The names of contracts, of market objects, which are called codes, and of currencies. A name's number is its
 /// place, from 0, among those of its sort, in the order in which they were added. No name is held twice, and there are
@@ -28,15 +29,36 @@ impl Model for Names {
     ghost view = { λ n. record { contracts = n.contracts; codes = n.codes; currencies = n.currencies } };
 }
 
-/// Names of one sort, in the order in which they were added, at most 134,217,727, and the number of each. The numbers are in a
-/// tree, so that no choice of names makes a look-up slow.
+/// Names of one sort, in the order in which they were added, at most 134,217,727, and the number of each. Copies share them until
+/// one gets another name. A list without names holds nothing, so that no memory is needed to make one.
 #[derive(Drop)]
 struct NameList {
+    alloc: Global,
+    held: Option<Arc<Held, Global>>,
+}
+
+impl Model for NameList {
+    ghost use Rattle.std.specs.Prelude.{[], ◌≤◌, ℕ, List, length};
+    ghost use Rattle.std.specs.Arc.{arc_value};
+    ghost use Rattle.std.specs.Option.{option_map_or};
+    ghost use Rattle.act_model.specs.Limits.{most_names};
+
+    ghost Value = { List (List ℕ) };
+
+    ghost view = { λ n. option_map_or arc_value n.held [] };
+
+    ghost invariant = { λ n. length (option_map_or arc_value n.held []) ≤ most_names };
+}
+
+/// The names that a list holds, and the number of each. The numbers are in a tree, so that no choice of names makes a look-up
+/// slow.
+#[derive(Drop)]
+struct Held {
     texts: Vec<String>,
     numbers: BTreeMap<String, u32>,
 }
 
-impl Model for NameList {
+impl Model for Held {
     ghost use Rattle.std.specs.Prelude.{◌≡◌, ℕ, List, map, string_bytes};
     ghost use Rattle.std.specs.BTreeMap.{get_by_text};
     ghost use Rattle.act_model.specs.Names.{AreNames, place_of};
@@ -168,7 +190,84 @@ impl NameList {
     fn new(alloc: Global) -> NameList
         ensures { result ≡ [] }
     {
-        NameList {
+        NameList { alloc, held: None }
+    }
+
+    /// The name of that number.
+    fn name(&self, number: u32) -> Option<&str>
+        ensures value { option_map (λ s. s.now) result ≡ slice_get self.now number }
+        ensures name { IfSome result (λ s. is_name s.now ≡ true) }
+        ensures number { IfSome result (λ s. place_of s.now self.now ≡ Some number) }
+    {
+        match &self.held {
+            Some(held) => held.name(number),
+            None => None,
+        }
+    }
+
+    /// The number of that name.
+    fn number(&self, name: &str) -> Option<u32>
+        ensures { result ≡ place_of name.now self.now }
+    {
+        match &self.held {
+            Some(held) => held.number(name),
+            None => None,
+        }
+    }
+
+    /// Adds a name, which isn't there yet, behind the others, and gives its number. NoMemory also where there are as
+    /// many as there may be.
+    fn add(&mut self, name: &str) -> Result<u32, NoMemory>
+        requires name { is_name name.now ≡ true }
+        requires absent { place_of name.now self.old ≡ None }
+        ensures number { IfOk result (λ n. n ≡ length self.old) }
+        ensures names { IfOk result (λ _. self.new ≡ self.old ++ name.now ∷ []) }
+        ensures unchanged { IfErr result (λ _. self.new ≡ self.old) }
+    {
+        if self.held.is_none() {
+            self.held = Some(Arc::new(self.alloc, Held::new(self.alloc))?);
+        }
+        match &mut self.held {
+            Some(held) => Arc::make_mut(held)?.add(name),
+            None => unreachable!(),
+        }
+    }
+
+    /// The number of a name, which it adds behind the others where it isn't there.
+    fn intern(&mut self, name: &str) -> Result<u32, NoMemory>
+        requires name { is_name name.now ≡ true }
+        ensures number { IfOk result (λ n. n ≡ number_of name.now self.old) }
+        ensures names { IfOk result (λ _. self.new ≡ with_name name.now self.old) }
+        ensures unchanged { IfErr result (λ _. self.new ≡ self.old) }
+    {
+        match self.number(name) {
+            Some(number) => Ok(number),
+            None => self.add(name),
+        }
+    }
+
+    /// A copy of the names, which shares them.
+    fn copied(&self) -> Result<NameList, NoMemory>
+        ensures names { IfOk result (λ names. names ≡ self.now) }
+        ensures few { IfOk result (λ names. length names ≤ MOST_NAMES) }
+    {
+        let held = match &self.held {
+            Some(held) => Some(Arc::try_clone(held)?),
+            None => None,
+        };
+        Ok(NameList {
+            alloc: self.alloc,
+            held,
+        })
+    }
+}
+
+impl Held {
+    /// No names.
+    fn new(alloc: Global) -> Held
+        ensures { result ≡ [] }
+    {
+        Held {
             texts: Vec::new(alloc),
             numbers: BTreeMap::new(alloc),
         }
@@ -198,6 +297,7 @@ impl NameList {
         requires absent { place_of name.now self.old ≡ None }
         ensures number { IfOk result (λ n. n ≡ length self.old) }
         ensures names { IfOk result (λ _. self.new ≡ self.old ++ name.now ∷ []) }
+        ensures few { IfOk result (λ _. length self.new ≤ MOST_NAMES) }
         ensures unchanged { IfErr result (λ _. self.new ≡ self.old) }
     {
         if self.texts.len() >= MOST_NAMES {
@@ -216,27 +316,16 @@ impl NameList {
         };
         Ok(number)
     }
+}
 
-    /// The number of a name, which it adds behind the others where it isn't there.
-    fn intern(&mut self, name: &str) -> Result<u32, NoMemory>
-        requires name { is_name name.now ≡ true }
-        ensures number { IfOk result (λ n. n ≡ number_of name.now self.old) }
-        ensures names { IfOk result (λ _. self.new ≡ with_name name.now self.old) }
-        ensures unchanged { IfErr result (λ _. self.new ≡ self.old) }
-    {
-        match self.number(name) {
-            Some(number) => Ok(number),
-            None => self.add(name),
-        }
-    }
+impl Clone for Held {
+    ghost use Rattle.std.specs.Prelude.{◌≡◌};
 
-    /// A copy of the names.
-    fn copied(&self) -> Result<NameList, NoMemory>
-        ensures names { IfOk result (λ names. names ≡ self.now) }
-        ensures few { IfOk result (λ names. length names ≤ MOST_NAMES) }
-    {
+    ghost is_clone = { λ held copy. copy ≡ held };
+
+    fn clone(&self) -> Result<Held, AllocError> {
         let texts = self.texts.clone()?;
         let numbers = self.numbers.clone()?;
-        Ok(NameList { texts, numbers })
+        Ok(Held { texts, numbers })
     }
 }

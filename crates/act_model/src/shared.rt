@@ -1,11 +1,12 @@
-//! Rows without what they share with others, and this.
-ghost use Rattle.std.specs.Prelude.{◌≡◌, ◌⊎◌, [], ◌∷◌, ◌++◌, ◌≤◌, length, true, Some, IfOk, IfSome, OnErr, OnOk, get_or, slice_get};
+//! Rows without what they share with others, and what they share.
+ghost use Rattle.std.specs.Prelude.{◌≡◌, ◌⊎◌, [], ◌∷◌, ◌++◌, ◌≤◌, length, true, Some, IfOk, OnErr, OnOk, get_or, slice_get};
 ghost use Rattle.std.specs.List.{All};
-ghost use Rattle.act_model.specs.Chunk.{FitsIn, HasParts, IsAtMost, StaysIn, bases_of, full_numbers, full_row, level_at, level_of, no_numbers, numbers_in, numbers_of, rest_of, row_of, short_of};
+ghost use Rattle.act_model.specs.Chunk.{FitsIn, HasParts, IsAtMost, StaysIn, bases_of, full_numbers, full_row, level_at, no_numbers, numbers_in, numbers_of, rest_of, row_of, short_of};
 ghost use Rattle.act_model.specs.Run.{cells_of, row_with};
 ghost use Rattle.act_model.specs.declared.shared.Counts.{Counts};
 
 use crate::event::EventType;
+use crate::numbers::{Level, Numbers, Short};
 use crate::run::{Row, RowHead};
 use crate::state::State;
 use act_date::Day;
@@ -82,118 +83,6 @@ impl Bases {
         ensures { result ≡ true → self.now ≡ bases_of state.now }
     {
         (self.feac == state.feac) & (self.ipcb == state.ipcb)
-    }
-}
-
-/// The notional and the rate of a row, in units of 10^-9, and its currency, which stay over many rows. Where its numbers are
-/// kept elsewhere, the notional and the rate are 0 here.
-#[derive(Clone, Copy)]
-struct Level {
-    nt: i64,
-    ipnr: i64,
-    currency: u32,
-}
-
-// A level takes 24 bytes.
-const _: () = prove!(size_of::<Level>() <= 24);
-
-impl Level {
-    /// Whether it is another. All is compared, without a branch for each part.
-    #[inline(always)]
-    fn is(&self, other: &Level) -> bool
-        ensures { result ≡ true → self.now ≡ other.now }
-    {
-        (self.nt == other.nt) & (self.ipnr == other.ipnr) & (self.currency == other.currency)
-    }
-}
-
-/// The numbers of a row that are printed.
-#[derive(Clone, Copy)]
-struct Numbers {
-    payoff: Fixed,
-    nt: Fixed,
-    ipnr: Fixed,
-    ipac: Fixed,
-}
-
-impl Numbers {
-    /// Those of a row.
-    fn of(head: &RowHead, state: &State) -> Numbers
-        ensures { result ≡ numbers_of head.now state.now }
-    {
-        Numbers {
-            payoff: head.payoff,
-            nt: state.nt,
-            ipnr: state.ipnr,
-            ipac: state.ipac,
-        }
-    }
-
-    /// Whether they are others.
-    fn are(&self, other: &Numbers) -> bool
-        ensures { result ≡ true → self.now ≡ other.now }
-    {
-        (self.payoff == other.payoff)
-            & (self.nt == other.nt)
-            & (self.ipnr == other.ipnr)
-            & (self.ipac == other.ipac)
-    }
-}
-
-/// The numbers of a row that are printed, where each fits 64 bits, in units of 10^-9.
-#[derive(Clone, Copy)]
-struct Short {
-    payoff: i64,
-    nt: i64,
-    ipnr: i64,
-    ipac: i64,
-}
-
-impl Short {
-    /// Those of longer numbers that are kept elsewhere.
-    const NONE: Short = Short {
-        payoff: 0,
-        nt: 0,
-        ipnr: 0,
-        ipac: 0,
-    };
-
-    /// Those of a row, where each fits.
-    #[inline(always)]
-    fn of(head: &RowHead, state: &State) -> Option<Short>
-        ensures { IfSome result (λ short. numbers_in short ≡ numbers_of head.now state.now) }
-    {
-        Some(Short {
-            payoff: shortened(head.payoff)?,
-            nt: shortened(state.nt)?,
-            ipnr: shortened(state.ipnr)?,
-            ipac: shortened(state.ipac)?,
-        })
-    }
-
-    /// Their level, with a currency.
-    #[inline(always)]
-    fn level(&self, currency: u32) -> Level
-        ensures { result ≡ level_of self.now currency }
-    {
-        Level {
-            nt: self.nt,
-            ipnr: self.ipnr,
-            currency,
-        }
-    }
-
-    /// The numbers themselves.
-    #[inline(always)]
-    fn numbers(&self) -> Numbers
-        ensures { result ≡ numbers_in self.now }
-    {
-        Numbers {
-            payoff: lengthened(self.payoff),
-            nt: lengthened(self.nt),
-            ipnr: lengthened(self.ipnr),
-            ipac: lengthened(self.ipac),
-        }
     }
 }
 
@@ -289,7 +178,7 @@ impl Slim {
     }
 }
 
-/// How many of each that is shared some rows need: those at their places, and those before.
+/// How much of what is shared some rows need: of each list the first so many.
 #[derive(Clone, Copy)]
 struct Counts {
     rests: usize,
@@ -334,7 +223,7 @@ impl Counts {
     }
 }
 
-/// What rows share. One is added to a list only where it differs from the last one there.
+/// What rows share. A part of a row is added to its list only where it differs from the last one there.
 #[derive(Drop)]
 pub(crate) struct Shared {
     rests: Vec<Rest>,
@@ -345,7 +234,7 @@ pub(crate) struct Shared {
 }
 
 impl Shared {
-    /// Nothing.
+    /// Nothing yet.
     pub(crate) fn new(alloc: Global) -> Shared {
         Shared {
             rests: Vec::new(alloc),
@@ -488,25 +377,6 @@ fn place_numbers(list: &mut Vec<Numbers>, head: &RowHead, state: &State) -> Resu
     })
 }
 
-/// A number in 64 bits, where it fits.
-#[inline(always)]
-fn shortened(number: Fixed) -> Option<i64>
-    ensures { IfSome result (λ short. short ≡ number) }
-{
-    i64::try_from(number.units()).ok()
-}
-
-/// The number of so many units of 10^-9.
-#[inline(always)]
-fn lengthened(units: i64) -> Fixed
-    ensures { result ≡ units }
-{
-    match Fixed::from_units(i128::from(units)) {
-        Some(number) => number,
-        None => unreachable!(),
-    }
-}
-
 /// The place of a state's rest, which is added unless it is the last one.
 #[inline(always)]
 fn place_rest(rests: &mut Vec<Rest>, state: &State) -> Result<u8, NoMemory>
@@ -546,8 +416,8 @@ fn place_level(levels: &mut Vec<Level>, level: &Level) -> Result<u8, NoMemory>
     added(levels, *level)
 }
 
-/// Adds one to a list, and gives its place. Where memory runs out, the list is as before.
-#[cold]
+/// Adds one to a list, and gives its place. Of the first there is mostly no second, so it has room alone. Where memory runs out,
+/// the list is as before.
 #[inline(never)]
 fn added<T: Copy>(list: &mut Vec<T>, one: T) -> Result<u8, NoMemory>
     ensures there { IfOk result (λ place. slice_get list.new.items place ≡ Some one) }
@@ -555,7 +425,11 @@ fn added<T: Copy>(list: &mut Vec<T>, one: T) -> Result<u8, NoMemory>
     ensures unchanged { OnErr result (list.new.items ≡ list.old.items) }
 {
     let place = numbered(list.len())?;
-    list.reserve(1)?;
+    if list.is_empty() {
+        list.reserve_exact(1)?;
+    } else {
+        list.reserve(1)?;
+    }
     list.push_reserved(one);
     Ok(place)
 }

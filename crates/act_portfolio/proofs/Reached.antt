@@ -1,12 +1,12 @@
 -- What is reached, when what is marked is kept once.
-use Rattle.std.proofs.Common.{◌≡◌, ℕ, zero, suc, ◌+◌, ◌<◌, ◌⊎◌, ◌==◌, Bool, true, false, replicate, List, [], ◌∷◌, ◌++◌, length, get_or, take, slice_set, append_assoc, inl, inr, refl, sym, ap, subst, ◌∙◌, arith, eqb}
+use Rattle.std.proofs.Common.{◌≡◌, ℕ, zero, suc, ◌+◌, ◌<◌, ◌⊎◌, ◌==◌, Bool, true, false, replicate, List, [], ◌∷◌, ◌++◌, length, get_or, take, slice_set, append_assoc, inl, inr, refl, sym, ap, subst, ◌∙◌, arith}
 use Rattle.std.proofs.lemmas.Bool.{eqb-false, eqb-true}
-use Rattle.std.proofs.lemmas.Grind.{flat_map-append, get_or-set_at}
-use Rattle.std.proofs.lemmas.List.{append-nil, get_or-set_other, length-set, take_more}
+use Rattle.std.proofs.lemmas.Grind.{flat_map-append}
+use Rattle.std.proofs.lemmas.List.{append-nil, get_or-set_other, take_more}
 use Rattle.std.specs.List.{Contains, flat_map}
 use Rattle.act_profile.specs.Reads.{ascending}
 use Rattle.act_portfolio.specs.Cones.{AreSeen, HaveSame}
-use Rattle.act_portfolio.proofs.Ascending.{In, contains-from_in, in-from_contains, same_ascending}
+use Rattle.act_portfolio.proofs.Ascending.{contains-from_in, in-from_contains, same_ascending}
 use Rattle.act_portfolio.proofs.Coned.{append_in, in_append}
 
 has-first : (c : ℕ) (xs ys : List ℕ) → Contains xs c → Contains (xs ++ ys) c

@@ -1,9 +1,10 @@
 -- What is known of contracts on the way to a portfolio.
-use Rattle.std.specs.Prelude.{◌≡◌, ℕ, ◌+◌, ◌<◌, ◌≤◌, true, false, codes, length, map, slice_get, Some, List, [], Ok, Result}
+use Rattle.std.specs.Prelude.{◌≡◌, ℕ, ◌+◌, ◌<◌, ◌≤◌, true, false, codes, length, map, slice_get, None, Some, List, [], Ok, Result, zero}
 use Rattle.std.specs.List.{All, filter_map, sum_by, zip}
 use Rattle.std.specs.Str.{bytes_eq}
+use Rattle.act_model.specs.Limits.{most_contracts}
 use Rattle.act_model.specs.Name.{is_name}
-use Rattle.act_model.specs.Names.{NameLists}
+use Rattle.act_model.specs.Names.{NameLists, no_names}
 use Rattle.act_model.specs.Reads.{Readings}
 use Rattle.act_model.specs.Run.{EventPlan}
 use Rattle.act_model.specs.declared.terms.Terms.{Terms}
@@ -12,10 +13,11 @@ use Rattle.act_profile.specs.Contract.{observed_as}
 use Rattle.act_profile.specs.Plan.{plan_of}
 use Rattle.act_refs.specs.Ordered.{order_of}
 use Rattle.act_terms.specs.Contract.{NamedTerms}
+use Rattle.serde_json.specs.Data.{Data}
 use Rattle.act_portfolio.specs.Binding.{bound_terms, children_with_shadows, shadow_numbers, shadow_of}
 use Rattle.act_portfolio.specs.Cones.{AreCones, AreRanks}
 use Rattle.act_portfolio.specs.Links.{first_unfit, listing_of}
-use Rattle.act_portfolio.specs.Reading.{Accepted, IsAccepted, counts_as, first_past, first_repeated, fitting, unrepeated, within_limit}
+use Rattle.act_portfolio.specs.Reading.{Accepted, IsAccepted, contracts_from, counts_as, first_past, first_repeated, fitting, portfolio_listed, unrepeated, unused_lists, within_limit}
 use Rattle.act_portfolio.specs.Refusal.{Refusal, ◌>>=◌}
 
 -- a contract whose terms are read: its name is a name and no star, and what is asked of its kind holds
@@ -38,6 +40,27 @@ checked contracts = do
   few ← within_limit (first_past 0 0 contracts) contracts
   ids ← unrepeated (first_repeated [] (map (λ (c : NamedTerms). c.id) contracts)) (map (λ (c : NamedTerms). c.id) contracts)
   fitting (first_unfit contracts) contracts
+
+-- contracts, what they are named and name, and the names that their kinds don't use
+pub record CheckedContracts : Type 0 where
+  pub named : List NamedTerms
+  pub names : NameLists
+  pub unused : List (List (List ℕ))
+
+-- contracts that were read from objects and checked
+pub record AreChecked (objects : List Data) (contracts : CheckedContracts) : Type 0 where
+  pub before : NameLists
+  pub read : contracts_from zero no_names objects ≡ Ok (contracts.named, before)
+  pub names : contracts.names ≡ record before { contracts = map (λ (c : NamedTerms). c.id) contracts.named }
+  pub passed : checked contracts.named ≡ Ok contracts.named
+  pub fit : first_unfit contracts.named ≡ None
+  pub few : count_with_shadows contracts.named ≤ most_contracts
+  pub are : All IsContract contracts.named
+  pub left : contracts.unused ≡ unused_lists contracts.named objects
+
+-- a portfolio, or what refuses it, is that of contracts that were read from objects and checked
+abbrev pub IsMadeOf : Result Accepted Refusal → CheckedContracts → Type 0
+IsMadeOf portfolio contracts = (objects : List Data) × (portfolio ≡ portfolio_listed objects) × AreChecked objects contracts
 
 -- terms have these plans, and what is asked of their kinds holds
 pub record HavePlans (terms : List Terms) (plans : List EventPlan) : Type 0 where

@@ -4,6 +4,7 @@ use Rattle.std.specs.Prelude.{◌≡◌, ℕ, zero, suc, ◌+◌, ◌<◌, ◌�
 use Rattle.std.specs.List.{All, zip}
 use Rattle.act_causality.specs.Causality.{IsLinked}
 use Rattle.act_json.specs.Reading.{json_of}
+use Rattle.act_json.specs.declared.fault.JsonFault.{JsonFault}
 use Rattle.act_model.specs.Kind.{type_of}
 use Rattle.act_model.specs.Limits.{most_contracts}
 use Rattle.act_model.specs.Names.{NameLists, no_names, place_of}
@@ -125,12 +126,16 @@ portfolio_listed contracts = do
   plans ← plans_from zero (with_shadows read.0)
   Ok (accepted contracts read.0 read.1 order plans)
 
--- the portfolio of a file's bytes
-unfoldable pub portfolio_of : List ℕ → Result Accepted Refusal
-portfolio_of bytes = do
-  value ← refusing (λ fault. no_json) (json_of bytes)
+-- the portfolio of what is read as JSON
+abbrev pub portfolio_in : Result Data JsonFault → Result Accepted Refusal
+portfolio_in json = do
+  value ← refusing (λ fault. no_json) json
   contracts ← list_of value
   portfolio_listed (in_portfolio_order contracts)
+
+-- the portfolio of a file's bytes
+unfoldable pub portfolio_of : List ℕ → Result Accepted Refusal
+portfolio_of bytes = portfolio_in (json_of bytes)
 
 -- ---- what is true of an accepted portfolio
 

@@ -1,7 +1,7 @@
 //! The contracts of a list, each by its terms.
 ghost use Rattle.std.specs.Prelude.{◌≡◌, ◌^◌, ◌<◌, ◌≤◌, [], Ok, Err, IfOk, IfErr, IfSome, length, map, zero};
 ghost use Rattle.std.specs.List.{All};
-ghost use Rattle.serde_json.specs.View.{view};
+ghost use Rattle.act_json.specs.Tree.{data_in};
 ghost use Rattle.act_model.specs.Names.{no_names};
 ghost use Rattle.act_terms.specs.Contract.{contract_of};
 ghost use Rattle.act_portfolio.specs.Known.{IsContract};
@@ -10,8 +10,7 @@ ghost use Rattle.act_portfolio.specs.Refusal.{refusal_of, refused_terms, refusin
 
 use crate::fault::{PortfolioFault, refused_terms};
 use act_model::Names;
-use act_terms::{ContractRead, NamedTerms, read_contract};
-use serde_json::Value;
+use act_terms::{ContractRead, ContractValue, NamedTerms, read_contract};
 use std::alloc::Global;
 
 /// Contracts as they were read, and the names that they have.
@@ -27,13 +26,13 @@ pub(crate) struct ContractsRead {
 /// among the names.
 pub(crate) fn read_contracts(
     alloc: Global,
-    contracts: &[&Value],
+    contracts: &[ContractValue],
 ) -> Result<ContractsRead, PortfolioFault>
     requires { length contracts.now ≤ 2 ^ 28 }
     ensures read { IfOk result (λ read.
-        contracts_from zero no_names (map (λ c. view c.now) contracts.now) ≡ Ok (read.named.items, read.names)) }
+        contracts_from zero no_names (map (λ c. data_in c.value.now) contracts.now) ≡ Ok (read.named.items, read.names)) }
     ensures refused { IfErr result (λ fault. IfSome (refusal_of fault) (λ refusal.
-        contracts_from zero no_names (map (λ c. view c.now) contracts.now) ≡ Err refusal)) }
+        contracts_from zero no_names (map (λ c. data_in c.value.now) contracts.now) ≡ Err refusal)) }
     ensures contracts { IfOk result (λ read. All IsContract read.named.items) }
     ensures unnamed { IfOk result (λ read. read.names.contracts ≡ []) }
 {
@@ -50,18 +49,18 @@ pub(crate) fn read_contracts(
 /// The contract of that number, and the names behind it.
 fn next_contract(
     alloc: Global,
-    contract: &Value,
+    contract: &ContractValue,
     number: u32,
     names: Names,
 ) -> Result<ContractRead, PortfolioFault>
     requires { number < 2 ^ 28 }
-    ensures read { IfOk result (λ read. contract_of number names (view contract.now) ≡ Ok (read.named, read.names)) }
+    ensures read { IfOk result (λ read. contract_of number names (data_in contract.now.value.now) ≡ Ok (read.named, read.names)) }
     ensures refused { IfErr result (λ fault. IfSome (refusal_of fault) (λ refusal.
-        refusing (refused_terms number) (contract_of number names (view contract.now)) ≡ Err refusal)) }
+        refusing (refused_terms number) (contract_of number names (data_in contract.now.value.now)) ≡ Err refusal)) }
     ensures contract { IfOk result (λ read. IsContract read.named) }
     ensures contracts { IfOk result (λ read. read.names.contracts ≡ names.contracts) }
 {
-    match read_contract(alloc, contract, number, names) {
+    match read_contract(alloc, contract.value, number, names) {
         Ok(read) => Ok(read),
         Err(fault) => Err(refused_terms(alloc, number, fault)),
     }

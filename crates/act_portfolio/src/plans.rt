@@ -1,7 +1,7 @@
 //! The plans of contracts, and the names that their types don't use.
 ghost use Rattle.std.specs.Prelude.{◌≡◌, ◌++◌, ◌<◌, ◌≤◌, ◌^◌, Ok, Err, IfOk, IfErr, IfSome, length, map, string_bytes, zero};
 ghost use Rattle.std.specs.List.{All};
-ghost use Rattle.serde_json.specs.View.{view};
+ghost use Rattle.act_json.specs.Tree.{data_in};
 ghost use Rattle.act_profile.specs.Plan.{plan_of};
 ghost use Rattle.act_profile.specs.Built.{IsBuilt};
 ghost use Rattle.act_portfolio.specs.Reading.{plans_from, unused_lists};
@@ -11,8 +11,7 @@ use crate::fault::{PortfolioFault, refused_plan};
 use act_contract::schedule;
 use act_model::{Plan, Terms};
 use act_num::NoMemory;
-use act_terms::{NamedTerms, unused_names};
-use serde_json::Value;
+use act_terms::{ContractValue, NamedTerms, unused_names};
 use std::alloc::Global;
 
 /// The terms of contracts, and behind them those of their shadows.
@@ -66,17 +65,17 @@ fn next_plan(alloc: Global, terms: &Terms, place: u32) -> Result<Plan, Portfolio
 /// For each contract of a list that is read, the names of its object that aren't terms of its type.
 pub(crate) fn unused_lists(
     alloc: Global,
-    contracts: &[&Value],
+    contracts: &[ContractValue],
     named: &[NamedTerms],
 ) -> Result<Vec<Vec<String>>, NoMemory>
     requires all { length named.now ≡ length contracts.now }
     ensures { IfOk result (λ unused. map (λ u. map string_bytes u.items) unused.items
-        ≡ unused_lists named.now (map (λ c. view c.now) contracts.now)) }
+        ≡ unused_lists named.now (map (λ c. data_in c.value.now) contracts.now)) }
 {
     let mut lists = Vec::with_capacity(alloc, named.len())?;
     for (place, contract) in named.iter().enumerate() {
         let contract_type = contract.terms.kind.contract_type();
-        let unused = unused_names(alloc, contract_type, contracts[place])?;
+        let unused = unused_names(alloc, contract_type, contracts[place].value)?;
         lists.push(unused)?;
     }
     Ok(lists)

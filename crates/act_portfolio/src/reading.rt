@@ -1,12 +1,13 @@
 //! Reading a portfolio file.
-ghost use Rattle.std.specs.Prelude.{◌≡◌, ◌^◌, ◌≤◌, [], None, Ok, Err, IfOk, IfErr, IfSome, OnOk, length, map, string_bytes, zero};
+ghost use Rattle.std.specs.Prelude.{◌≡◌, ◌^◌, ◌≤◌, List, [], None, Ok, Err, IfOk, IfErr, IfSome, OnOk, length, map, zero};
 ghost use Rattle.std.specs.List.{All};
-ghost use Rattle.serde_json.specs.View.{view};
-ghost use Rattle.act_json.specs.Reading.{json_of};
-ghost use Rattle.act_portfolio.specs.Known.{IsContract, checked, count_with_shadows};
+ghost use Rattle.serde_json.specs.Data.{Data};
+ghost use Rattle.act_json.specs.Tree.{data_in, json_as_is};
+ghost use Rattle.act_terms.specs.Inline.{in_portfolio_order};
+ghost use Rattle.act_portfolio.specs.Known.{AreChecked, IsContract, IsMadeOf, checked, count_with_shadows};
 ghost use Rattle.act_portfolio.specs.Links.{first_unfit};
-ghost use Rattle.act_portfolio.specs.Reading.{list_of, portfolio_listed, portfolio_of};
-ghost use Rattle.act_portfolio.specs.Refusal.{no_json, refusal_of, refusing};
+ghost use Rattle.act_portfolio.specs.Reading.{portfolio_in, portfolio_listed, portfolio_of};
+ghost use Rattle.act_portfolio.specs.Refusal.{refusal_of};
 
 use crate::contracts::{ContractsRead, read_contracts};
 use crate::fault::{PortfolioFault, refused};
@@ -16,57 +17,103 @@ use crate::links::{Listing, references_fit};
 use crate::names::name_contracts;
 use crate::plans::unused_lists;
 use crate::portfolio::Portfolio;
-use act_json::{JsonFault, read};
+use act_json::{JsonFault, is_quoted, items_of, quote, read_tree};
 use act_model::{MOST_BYTES, MOST_CONTRACTS, Names};
-use act_terms::{NamedTerms, in_portfolio_order};
-use serde_json::Value;
+use act_terms::{ContractValue, NamedTerms, in_portfolio_order};
+use json::{Scratch, Value};
 use std::alloc::Global;
+use std::marker::Model;
 
 /// More contracts than a file of 64 MiB can have.
 const TOO_MANY: usize = 268_435_456;
 
+/// Contracts that were read and checked, and the names that their kinds don't use.
+#[derive(Drop)]
+struct Checked {
+    named: Vec<NamedTerms>,
+    names: Names,
+    unused: Vec<Vec<String>>,
+}
+
+impl Model for Checked {
+    ghost use Rattle.std.specs.Prelude.{map, string_bytes};
+    ghost use Rattle.act_terms.specs.Inline.{in_portfolio_order};
+    ghost use Rattle.act_portfolio.specs.Known.{CheckedContracts};
+
+    ghost Value = { CheckedContracts };
+
+    ghost view = { λ c. record { named = c.named.items; names = c.names; unused = map (λ u. map string_bytes u.items) c.unused.items } };
+}
+
 /// The portfolio that the bytes of a file are.
-#[tactic(auto, unfolding(crate::specs::Reading::portfolio_of))]
 pub(crate) fn read_portfolio(alloc: Global, bytes: &[u8]) -> Result<Portfolio, PortfolioFault>
     requires size { length bytes.now ≤ MOST_BYTES }
     ensures accepted { IfOk result (λ portfolio. portfolio_of bytes.now ≡ Ok portfolio) }
     ensures refused { IfErr result (λ fault. IfSome (refusal_of fault) (λ refusal. portfolio_of bytes.now ≡ Err refusal)) }
 {
-    let value = json(alloc, bytes)?;
-    let listed = list(alloc, &value)?;
-    let contracts = in_portfolio_order(alloc, listed)?;
-    portfolio_listed(alloc, &contracts)
+    let checked = read_checked(alloc, bytes)?;
+    portfolio_checked(alloc, checked)
 }
 
-/// The JSON value of the bytes.
-fn json(alloc: Global, bytes: &[u8]) -> Result<Value, PortfolioFault>
-    ensures value { IfOk result (λ value. json_of bytes.now ≡ Ok (view value)) }
-    ensures refused { IfErr result (λ fault. IfSome (refusal_of fault) (λ refusal.
-        refusing (λ fault. no_json) (json_of bytes.now) ≡ Err refusal)) }
+/// The contracts of a file, read and checked.
+fn read_checked(alloc: Global, bytes: &[u8]) -> Result<Checked, PortfolioFault>
+    requires size { length bytes.now ≤ MOST_BYTES }
+    ensures checked { IfOk result (λ checked. IsMadeOf (portfolio_of bytes.now) checked) }
+    ensures refused { IfErr result (λ fault. IfSome (refusal_of fault) (λ refusal. portfolio_of bytes.now ≡ Err refusal)) }
 {
-    match read(alloc, bytes) {
-        Ok(value) => Ok(value),
+    if is_quoted(bytes) {
+        return text_checked(alloc, bytes);
+    }
+    match quote(alloc, bytes) {
+        Ok(quoted) => text_checked(alloc, &quoted),
+        Err(_) => Err(PortfolioFault::NoMemory),
+    }
+}
+
+/// The same of a text in which no bare number stands. Its JSON tree, which takes much memory, is dropped before any reference
+/// is bound.
+fn text_checked(alloc: Global, text: &[u8]) -> Result<Checked, PortfolioFault>
+    ensures checked { IfOk result (λ checked. IsMadeOf (portfolio_in (json_as_is text.now)) checked) }
+    ensures refused { IfErr result (λ fault. IfSome (refusal_of fault) (λ refusal. portfolio_in (json_as_is text.now) ≡ Err refusal)) }
+{
+    let mut scratch = Scratch::new(alloc);
+    match read_tree(alloc, text, &mut scratch) {
+        Ok(tree) => {
+            let checked = tree_checked(alloc, &tree);
+            drop(tree);
+            checked
+        }
         Err(JsonFault::NoMemory) => Err(PortfolioFault::NoMemory),
         Err(_) => Err(refused(alloc, 10, 0, "-")),
     }
 }
 
-/// The list that a value is.
-fn list(alloc: Global, value: &Value) -> Result<&[Value], PortfolioFault>
-    ensures list { IfOk result (λ contracts. list_of (view value.now) ≡ Ok (map view contracts.now)) }
-    ensures refused { IfErr result (λ fault. IfSome (refusal_of fault) (λ refusal. list_of (view value.now) ≡ Err refusal)) }
+/// The same of a JSON tree, which has to be a list.
+fn tree_checked(alloc: Global, tree: &Value) -> Result<Checked, PortfolioFault>
+    ensures checked { IfOk result (λ checked. IsMadeOf (portfolio_in (Ok (data_in tree.now))) checked) }
+    ensures refused { IfErr result (λ fault. IfSome (refusal_of fault) (λ refusal. portfolio_in (Ok (data_in tree.now)) ≡ Err refusal)) }
 {
-    match value.as_array() {
-        Some(contracts) => Ok(contracts.as_slice()),
+    match items_of(tree) {
+        Some(listed) => list_checked(alloc, listed),
         None => Err(refused(alloc, 11, 0, "-")),
     }
 }
 
-/// The portfolio of contracts in portfolio order.
-fn portfolio_listed(alloc: Global, contracts: &[&Value]) -> Result<Portfolio, PortfolioFault>
-    ensures accepted { IfOk result (λ portfolio. portfolio_listed (map (λ c. view c.now) contracts.now) ≡ Ok portfolio) }
+/// The same of the values of a list.
+fn list_checked(alloc: Global, listed: &[Value]) -> Result<Checked, PortfolioFault>
+    ensures checked { IfOk result (λ checked. IsMadeOf (portfolio_listed (in_portfolio_order (map data_in listed.now))) checked) }
     ensures refused { IfErr result (λ fault. IfSome (refusal_of fault) (λ refusal.
-        portfolio_listed (map (λ c. view c.now) contracts.now) ≡ Err refusal)) }
+        portfolio_listed (in_portfolio_order (map data_in listed.now)) ≡ Err refusal)) }
+{
+    let contracts = in_portfolio_order(alloc, listed)?;
+    contracts_checked(alloc, &contracts)
+}
+
+/// Contracts in portfolio order, read and checked.
+fn contracts_checked(alloc: Global, contracts: &[ContractValue]) -> Result<Checked, PortfolioFault>
+    ensures checked { IfOk result (λ checked. AreChecked (map (λ c. data_in c.value.now) contracts.now) checked) }
+    ensures refused { IfErr result (λ fault. IfSome (refusal_of fault) (λ refusal.
+        portfolio_listed (map (λ c. data_in c.value.now) contracts.now) ≡ Err refusal)) }
 {
     if contracts.len() > TOO_MANY {
         return Err(PortfolioFault::NoMemory);
@@ -74,6 +121,28 @@ fn portfolio_listed(alloc: Global, contracts: &[&Value]) -> Result<Portfolio, Po
     let ContractsRead { named, mut names } = read_contracts(alloc, contracts)?;
     check(alloc, &named, &mut names)?;
     let unused = unused_lists(alloc, contracts, &named)?;
+    Ok(Checked {
+        named,
+        names,
+        unused,
+    })
+}
+
+/// The portfolio of contracts that were checked.
+fn portfolio_checked(alloc: Global, checked: Checked) -> Result<Portfolio, PortfolioFault>
+    requires { (objects : List Data) × AreChecked objects checked }
+    ensures accepted { IfOk result (λ portfolio. (objects : List Data)
+        → AreChecked objects checked
+        → portfolio_listed objects ≡ Ok portfolio) }
+    ensures refused { IfErr result (λ fault. IfSome (refusal_of fault) (λ refusal. (objects : List Data)
+        → AreChecked objects checked
+        → portfolio_listed objects ≡ Err refusal)) }
+{
+    let Checked {
+        named,
+        names,
+        unused,
+    } = checked;
     let graph = graph_of(alloc, &names, &named)?;
     bound_portfolio(alloc, names, named, graph, unused)
 }

@@ -6,5 +6,6 @@ pub mod KeptOf
 pub mod KeptRuns
 pub mod Limited
 pub mod Observations
+pub mod Planned
 pub mod Resumed
 pub mod TakenRows

@@ -1,15 +1,19 @@
 //! The events of a contract over a list of entries.
-ghost use Rattle.std.specs.Prelude.{◌≡◌, ◌∷◌, ◌++◌, map, IfOk};
+ghost use Rattle.std.specs.Prelude.{◌≡◌, ◌∷◌, ◌++◌, List, Ok, map, IfOk, IfSome};
 ghost use Rattle.std.specs.Arc.{arc_value};
 ghost use Rattle.std.specs.List.{enumerate_from, flat_map};
 ghost use Rattle.act_model.specs.Observed.{observed_events};
+ghost use Rattle.act_model.specs.Run.{Stream};
+ghost use Rattle.act_model.specs.declared.observed.Obs.{Obs};
 ghost use Rattle.act_profile.specs.Contract.{observed_as};
-ghost use Rattle.act_profile.specs.Events.{event_observed, events_by, events_observed, events_of, events_of_entry, events_scheduled, prepayment_events, with_exercise};
+ghost use Rattle.act_profile.specs.Events.{event_observed, events_by, events_of, events_of_entry, events_scheduled, prepayment_events, with_exercise};
+ghost use Rattle.act_profile.specs.Plan.{plan_of};
+ghost use Rattle.act_run.specs.Planned.{is_planned};
 ghost use Rattle.act_swap.specs.Children.{RunsAreInDayOrder};
 
 use act_credit::guarantee_events;
 use act_date::Day;
-use act_kind::{put_in_order, retain_counting};
+use act_kind::{counting, put_in_order, retain_counting};
 use act_model::{
     Common, Event, EventType, Kind, Obs, ObsKind, Observed, PenaltyType, Plan, Run, Source, Terms,
 };
@@ -19,57 +23,56 @@ use act_swap::with_rows_of_children;
 use std::alloc::Global;
 use std::sync::Arc;
 
+/// The events of a contract that count, as a part of its plan, where nothing is observed of it and its kind has no others and
+/// none that moves; else None.
+pub(crate) fn planned_events<'a>(terms: &Terms, plan: &'a Plan, own: &[Obs]) -> Option<&'a [Event]>
+    requires plan { plan_of terms.now ≡ Ok plan.now }
+    ensures { IfSome result (λ events. (entries : List Obs) (children : List Stream)
+        → own.now ≡ observed_events entries (observed_as terms.now.common) → events.now ≡ events_of terms.now plan.now entries children) }
+{
+    if own.is_empty() && is_planned(&terms.kind) {
+        Some(counting(terms, &plan.events))
+    } else {
+        None
+    }
+}
+
+/// Whether a contract of that kind has the events of its plan alone, where nothing is observed of it.
+fn is_planned(kind: &Kind) -> bool
+    ensures { result ≡ is_planned kind.now }
+{
+    match kind {
+        Kind::SWAPS(_)
+        | Kind::CAPFL(_)
+        | Kind::OPTNS(_)
+        | Kind::FUTUR(_)
+        | Kind::CEG(_)
+        | Kind::CEC(_) => false,
+        _ => true,
+    }
+}
+
 /// The events of a contract that count, in order: those of its plan, observed ones behind the scheduled ones of the same day
 /// and type, and behind these rows of its children. An observed exercise moves that of an option, a credit event that of a
-/// guarantee, and only an exercise that counts is settled.
+/// guarantee, and only an exercise that counts is settled. `own` are the entries of the contract's own.
 pub(crate) fn events_of<O: Observed>(
     alloc: Global,
     terms: &Terms,
     plan: &Plan,
+    own: &[Obs],
     children: &[Arc<Run, Global>],
     seen: &O,
 ) -> Result<Vec<Event>, NoMemory>
-    requires { RunsAreInDayOrder (map arc_value children.now) }
+    requires own { own.now ≡ observed_events (O.entries seen.now) (observed_as terms.now.common) }
+    requires children { RunsAreInDayOrder (map arc_value children.now) }
     ensures { IfOk result (λ events. events.items
         ≡ events_of terms.now plan.now (O.entries seen.now) (map arc_value children.now)) }
 {
-    let own = own_events(alloc, terms, plan, seen)?;
-    let mut events = with_rows_of_children(own, &terms.common, &terms.kind, children)?;
-    put_in_order(&mut events)?;
-    Ok(with_exercise(&terms.kind, retain_counting(terms, events)))
-}
-
-/// The events of a contract that aren't rows of its children: first the scheduled ones, and then the observed ones.
-fn own_events<O: Observed>(
-    alloc: Global,
-    terms: &Terms,
-    plan: &Plan,
-    seen: &O,
-) -> Result<Vec<Event>, NoMemory>
-    ensures { IfOk result (λ events. events.items
-        ≡ events_scheduled terms.now.common terms.now.kind plan.now (O.entries seen.now) ++ events_observed terms.now (O.entries seen.now)) }
-{
-    let own = seen.events_of(alloc, observed_as(&terms.common))?;
-    let events = scheduled_and_observed(alloc, terms, plan, &own, seen);
-    drop(own);
-    events
-}
-
-/// The same by the entries of the contract's own.
-fn scheduled_and_observed<O: Observed>(
-    alloc: Global,
-    terms: &Terms,
-    plan: &Plan,
-    own: &[Obs],
-    seen: &O,
-) -> Result<Vec<Event>, NoMemory>
-    requires { own.now ≡ observed_events (O.entries seen.now) (observed_as terms.now.common) }
-    ensures { IfOk result (λ events. events.items
-        ≡ events_scheduled terms.now.common terms.now.kind plan.now (O.entries seen.now) ++ events_observed terms.now (O.entries seen.now)) }
-{
     let mut events = scheduled_events(alloc, terms, plan, own, seen)?;
     add_all(&mut events, &terms.kind, own)?;
-    Ok(events)
+    let mut events = with_rows_of_children(events, &terms.common, &terms.kind, children)?;
+    put_in_order(&mut events)?;
+    Ok(with_exercise(&terms.kind, retain_counting(terms, events)))
 }
 
 /// The scheduled events of a contract: those of its plan, of an option with the day of its exercise, and of a guarantee with
@@ -114,7 +117,7 @@ fn add_all(events: &mut Vec<Event>, kind: &Kind, entries: &[Obs]) -> Result<(), 
 }
 
 /// The contract whose observed events count: a shadow has those of its underlying.
-fn observed_as(common: &Common) -> u32
+pub(crate) fn observed_as(common: &Common) -> u32
     ensures { result ≡ observed_as common.now }
 {
     common.underlying.unwrap_or(common.contract)

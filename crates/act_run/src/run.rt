@@ -3,6 +3,7 @@ ghost use Rattle.std.specs.Prelude.{◌≡◌, ◌+◌, ◌≤◌, drop, int_lt,
 ghost use Rattle.std.specs.Arc.{arc_value};
 ghost use Rattle.std.specs.List.{prefix_len};
 ghost use Rattle.act_profile.specs.Built.{IsBuilt};
+ghost use Rattle.act_profile.specs.Events.{events_of};
 ghost use Rattle.act_profile.specs.Kept.{kept_of};
 ghost use Rattle.act_profile.specs.Plan.{plan_of};
 ghost use Rattle.act_profile.specs.Run.{run_over};
@@ -10,7 +11,7 @@ ghost use Rattle.act_run.specs.Limits.{before_limit, closed_by};
 ghost use Rattle.act_run.specs.Resuming.{BeginsWith};
 ghost use Rattle.act_swap.specs.Children.{AreInDayOrder, RunsAreInDayOrder};
 
-use crate::events::events_of;
+use crate::events::{events_of, observed_as, planned_events};
 use crate::kept::kept_count;
 use crate::limit::{Limit, limit_of};
 use crate::rows::{first_rows, rows_behind, state_behind, stopped_at_once};
@@ -102,11 +103,45 @@ fn run_behind<O: Observed, L: Ledger>(
     ensures in_day_order { IfOk result (λ run. AreInDayOrder run.rows) }
     ensures ticked { IfOk result (λ run. steps.new + count ≡ steps.old + length run.rows) }
 {
+    let own = seen.events_of(alloc, observed_as(&terms.common))?;
+    if let Some(events) = planned_events(terms, plan, &own) {
+        return run_of_events(
+            alloc, terms, plan, children, rows, count, seen, steps, events,
+        );
+    }
+    let events = events_of(alloc, terms, plan, &own, children, seen)?;
+    drop(own);
+    run_of_events(
+        alloc, terms, plan, children, rows, count, seen, steps, &events,
+    )
+}
+
+/// The same run, where its events are known.
+fn run_of_events<O: Observed, L: Ledger>(
+    alloc: Global,
+    terms: &Terms,
+    plan: &Plan,
+    children: &[Arc<Run, Global>],
+    rows: &Rows,
+    count: usize,
+    seen: &O,
+    steps: &mut Steps<L>,
+    events: &[Event],
+) -> Result<Run, NoMemory>
+    requires built { IsBuilt terms.now.kind }
+    requires plan { plan_of terms.now ≡ Ok plan.now }
+    requires children { RunsAreInDayOrder (map arc_value children.now) }
+    requires within { count ≤ length rows.now }
+    requires same { BeginsWith (run_over terms.now plan.now (O.entries seen.now) (map arc_value children.now)) (take count rows.now) }
+    requires events { events.now ≡ events_of terms.now plan.now (O.entries seen.now) (map arc_value children.now) }
+    ensures run { IfOk result (λ run. run ≡ run_over terms.now plan.now (O.entries seen.now) (map arc_value children.now)) }
+    ensures in_day_order { IfOk result (λ run. AreInDayOrder run.rows) }
+    ensures ticked { IfOk result (λ run. steps.new + count ≡ steps.old + length run.rows) }
+{
     let limit = limit_of(alloc, terms, children, seen)?;
-    let events = events_of(alloc, terms, plan, children, seen)?;
     match start(terms, plan) {
         Ok(first) => {
-            let before = before_limit(&limit, &events);
+            let before = before_limit(&limit, events);
             let kept = first_rows(alloc, rows, count, before.len())?;
             let state = state_behind(first, &kept);
             let left = events_behind(before, count);

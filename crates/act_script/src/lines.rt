@@ -4,6 +4,8 @@ ghost use Rattle.std.specs.List.{slice_split};
 ghost use Rattle.std.specs.Option.{option_map_or};
 ghost use Rattle.act_script.specs.Lines.{is_blank};
 
+use memchr::memchr;
+
 /// The first line of a text, without its line feed, and what stands behind that, where it has one.
 pub(crate) fn first_line(text: &[u8]) -> (&[u8], Option<&[u8]>)
     ensures lines { slice_split (λ byte. byte == 10) text.now
@@ -20,7 +22,7 @@ pub(crate) fn first_line(text: &[u8]) -> (&[u8], Option<&[u8]>)
 fn first_line_feed(text: &[u8]) -> Option<usize>
     ensures { result ≡ position (λ byte. byte == 10) text.now }
 {
-    text.iter().position(|byte| *byte == b'\n')
+    memchr(b'\n', text)
 }
 
 /// Whether a line says nothing: it has spaces, tabs and carriage returns alone.

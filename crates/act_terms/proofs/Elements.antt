@@ -1,8 +1,13 @@
 -- The elements of a list of JSON values, and the references that they are, read one by one.
-use Rattle.std.proofs.Common.{◌≡◌, List, [], ◌∷◌, ◌++◌, Result, Ok, Err, refl, ap, sym, ◌∙◌, append_assoc, append-nil}
+use Rattle.std.proofs.Common.{◌≡◌, List, [], ◌∷◌, ◌++◌, map, Vec, Result, Ok, Err, refl, ap, sym, ◌∙◌, append_assoc, append-nil}
 use Rattle.act_model.specs.Names.{NameLists}
 use Rattle.act_profile.specs.Outcomes.{then_ok}
-use Rattle.serde_json.specs.Data.{Data}
+use Rattle.std.specs.declared.alloc.Global.{Global}
+use Rattle.json.proofs.Trees.{view-Array}
+use Rattle.json.specs.declared.value.Value.{Value, Array}
+use Rattle.act_json.proofs.Trees.{items_listed}
+use Rattle.act_json.specs.Tree.{data_in}
+use Rattle.serde_json.specs.Data.{Data, array}
 use Rattle.serde_json.specs.View.{items_of}
 use Rattle.act_terms.specs.Structure.{listed, reference_of, references_from}
 use Rattle.act_terms.specs.declared.fault.TermsFault.{TermsFault}
@@ -12,6 +17,10 @@ use Rattle.act_terms.specs.Reference.{Reference}
 pub listed_again : (ds : List Data) → listed (items_of ds) ≡ ds
 listed_again [] = refl
 listed_again (d ∷ ds) = ap (λ more. d ∷ more) (listed_again ds)
+
+-- a value that is a list has its values' data as its items
+pub array_is : (value : Value Global) (values : Vec (Value Global) Global) → value ≡ Array values → data_in value ≡ array (items_of (map data_in values.items))
+array_is value values is = rw (is, view-Array values) (ap array (items_listed values.items))
 
 -- ---- references, one by one
 

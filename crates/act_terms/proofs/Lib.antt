@@ -6,4 +6,5 @@ pub mod Given
 pub mod NamesKept
 pub mod Nesting
 pub mod TermNames
+pub mod UnusedNames
 pub mod WithoutWant

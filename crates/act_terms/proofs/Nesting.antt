@@ -10,8 +10,10 @@ use Rattle.std.proofs.lemmas.List.{map_more}
 use Rattle.std.proofs.lemmas.List.Elements.{All-cons, All-nil, filter_map-append}
 use Rattle.serde_json.specs.Data.{Data, null, boolean, number, string, array, object, Items, no_items, item, Members, no_members, member, depth, items_depth, members_depth}
 use Rattle.serde_json.specs.Find.{get, get_member}
-use Rattle.serde_json.specs.View.{items_view, view}
-use Rattle.serde_json.specs.declared.value.Value.{Value}
+use Rattle.serde_json.specs.View.{items_of}
+use Rattle.std.specs.declared.alloc.Global.{Global}
+use Rattle.json.specs.declared.value.Value.{Value}
+use Rattle.act_json.specs.Tree.{data_in}
 use Rattle.act_terms.specs.Choices.{reference_type_named}
 use Rattle.act_terms.specs.Fields.{choice_field}
 use Rattle.act_terms.specs.Inline.{contract_in, elements_where_listed, has_inline, has_object, inline_contracts, is_inside, nested, with_inline}
@@ -133,17 +135,17 @@ with_inline-step contract =
 
 -- ---- the elements of a structure
 
-items_lower : (bound : ℕ) (values : List Value) → items_depth (items_view values) < bound → All (λ v. depth (view v) < bound) values
-items_lower bound [] within = All-nil (λ v. depth (view v) < bound)
+items_lower : (bound : ℕ) (values : List (Value Global)) → items_depth (items_of (map data_in values)) < bound → All (λ v. depth (data_in v) < bound) values
+items_lower bound [] within = All-nil (λ v. depth (data_in v) < bound)
 items_lower bound (v ∷ values) within =
-    let here : depth (view v) < bound = omega arith in
-    let more : items_depth (items_view values) < bound = omega arith in
-    All-cons (λ e. depth (view e) < bound) v values here (items_lower bound values more)
+    let here : depth (data_in v) < bound = omega arith in
+    let more : items_depth (items_of (map data_in values)) < bound = omega arith in
+    All-cons (λ e. depth (data_in e) < bound) v values here (items_lower bound values more)
 
 -- they nest less deep than the contract
-pub values_lower : (contract : Data) (values : List Value) → get (codes "contractStructure") contract ≡ Some (array (items_view values)) → All (λ v. depth (view v) < depth contract) values
+pub values_lower : (contract : Data) (values : List (Value Global)) → get (codes "contractStructure") contract ≡ Some (array (items_of (map data_in values))) → All (λ v. depth (data_in v) < depth contract) values
 values_lower contract values there =
-    let lower = get-depth (codes "contractStructure") contract (array (items_view values)) there in items_lower (depth contract) values (omega arith)
+    let lower = get-depth (codes "contractStructure") contract (array (items_of (map data_in values))) there in items_lower (depth contract) values (omega arith)
 
 -- ---- one element after another
 
@@ -218,5 +220,5 @@ pub none_inline : (contract : Data) (elements : List Data) → elements ≡ elem
 none_inline contract elements is none = inline_of contract elements is ∙ rw (no_objects elements none) (either_way (has_inline contract) [])
 
 -- values up to a place, and one more
-pub shown_more : (values : List Value) (i : ℕ) (v : Value) → i < length values → v ≡ get_or values i v → map view (take (i + 1) values) ≡ map view (take i values) ++ view v ∷ []
-shown_more values i v within is = map_more view values i v within ∙ ap (λ w. map view (take i values) ++ view w ∷ []) (sym is)
+pub shown_more : (values : List (Value Global)) (i : ℕ) (v : Value Global) → i < length values → v ≡ get_or values i v → map data_in (take (i + 1) values) ≡ map data_in (take i values) ++ data_in v ∷ []
+shown_more values i v within is = map_more data_in values i v within ∙ ap (λ w. map data_in (take i values) ++ data_in w ∷ []) (sym is)

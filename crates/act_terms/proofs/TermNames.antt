@@ -7,7 +7,7 @@ use Rattle.act_model.specs.declared.choice.ContractType.{ContractType}
 use Rattle.act_model.specs.declared.choice.ContractType.TheVariants as type
 use Rattle.serde_json.specs.Data.{Data, object, Members}
 use Rattle.serde_json.specs.Find.{as_object}
-use Rattle.act_json.proofs.Found.{lengths_differ}
+use Rattle.act_json.proofs.Trees.{lengths_differ}
 use Rattle.act_terms.specs.Used.{common_terms, is_among, is_term_of, loan_terms, member_names, own_terms, redemption_terms, settlement_terms, shared_terms, trade_terms, unused_names}
 
 -- names of different lengths are different

@@ -1,20 +1,20 @@
 //! The texts that a choice may have.
 ghost use Rattle.std.specs.Prelude.{◌≡◌, ℕ, ◌||◌, ◌==◌, List, Option, Some, map};
 ghost use Rattle.std.specs.Option.{ok_or};
-ghost use Rattle.serde_json.specs.View.{view};
-ghost use Rattle.act_json.specs.Listed.{object_of};
+ghost use Rattle.act_json.specs.Tree.{data_in};
+ghost use Rattle.act_json.specs.Tree.{object_of};
 ghost use Rattle.act_json.specs.Results.{result_map};
 ghost use Rattle.act_terms.specs.Choices.{among, calculation_base_named, calendar_named, convention_named, credit_event_named, day_count_named, delivery_named, exercise_type_named, exposure_named, fee_basis_named, is_none, month_rule_named, option_type_named, penalty_type_named, reference_role_named, reference_type_named, role_named, scaling_effect_named};
 ghost use Rattle.act_terms.specs.Fields.{choice_field};
 
 use crate::reference::{ReferenceRole, ReferenceType};
 use act_date::{Calendar, Convention, DayCount, MonthRule};
-use act_json::{JsonFault, Members, text_in};
+use act_json::{JsonFault, Object, text_within};
 use act_model::{
     ContractRole, DeliverySettlement, ExerciseType, FeeBasis, GuaranteedExposure,
     InterestCalculationBase, ObsKind, OptionType, PenaltyType, ScalingEffect,
 };
-use serde_json::Value;
+use json::Value;
 
 /// The roles of a contract's owner, by their names.
 const ROLES: [(&str, ContractRole); 13] = [
@@ -143,7 +143,7 @@ pub(crate) trait Choice: Copy {
 
 /// The choice that a term gives. BadValue where its text names none.
 #[tactic(auto, unfolding(crate::specs::Fields::choice_field))]
-pub(crate) fn choice_in<T: Choice>(contract: &Members, term: &str) -> Result<Option<T>, JsonFault>
+pub(crate) fn choice_in<T: Choice>(contract: &Object, term: &str) -> Result<Option<T>, JsonFault>
     ensures { result ≡ choice_field T.named term.now (object_of contract.now) }
 {
     match contract.text(term)? {
@@ -155,9 +155,9 @@ pub(crate) fn choice_in<T: Choice>(contract: &Members, term: &str) -> Result<Opt
 /// The choice that a member of an element gives. BadValue where its text names none.
 #[tactic(auto, unfolding(crate::specs::Fields::choice_field))]
 pub(crate) fn choice_within<T: Choice>(element: &Value, name: &str) -> Result<Option<T>, JsonFault>
-    ensures { result ≡ choice_field T.named name.now (view element.now) }
+    ensures { result ≡ choice_field T.named name.now (data_in element.now) }
 {
-    match text_in(element, name)? {
+    match text_within(element, name)? {
         Some(text) => chosen(T::named(text)),
         None => Ok(None),
     }

@@ -1,6 +1,6 @@
 //! The terms that every contract has.
 ghost use Rattle.std.specs.Prelude.{◌≡◌, ◌≢◌, Ok, Err, IfOk, IfErr};
-ghost use Rattle.act_json.specs.Listed.{object_of};
+ghost use Rattle.act_json.specs.Tree.{object_of};
 ghost use Rattle.act_terms.specs.Common.{business_days_of, common_of, given_trades_of, may_trade, position_of, trades_of};
 
 use crate::choices::choice_in;
@@ -8,7 +8,7 @@ use crate::currencies::{code_where, read_currencies};
 use crate::fault::TermsFault;
 use crate::fields::{needed, needed_day, optional, optional_day, optional_decimal};
 use act_date::{Calendar, Convention, Day, MonthRule};
-use act_json::Members;
+use act_json::Object;
 use act_model::{Common, ContractRole, ContractType, Names};
 use act_num::Fixed;
 use std::alloc::Global;
@@ -42,7 +42,7 @@ struct Trades {
 pub(crate) fn read_common(
     alloc: Global,
     contract_type: ContractType,
-    contract: &Members,
+    contract: &Object,
     number: u32,
     names: &mut Names,
 ) -> Result<Common, TermsFault>
@@ -76,7 +76,7 @@ pub(crate) fn read_common(
 
 /// The role, and the day as of which the terms are given.
 #[tactic(auto, unfolding(crate::specs::Common::position_of))]
-fn read_position(contract: &Members) -> Result<Position, TermsFault>
+fn read_position(contract: &Object) -> Result<Position, TermsFault>
     ensures { result ≡ position_of (object_of contract.now) }
 {
     Ok(Position {
@@ -87,7 +87,7 @@ fn read_position(contract: &Members) -> Result<Position, TermsFault>
 
 /// The calendar and the conventions.
 #[tactic(auto, unfolding(crate::specs::Common::business_days_of))]
-fn read_business_days(contract: &Members) -> Result<BusinessDays, TermsFault>
+fn read_business_days(contract: &Object) -> Result<BusinessDays, TermsFault>
     ensures { result ≡ business_days_of (object_of contract.now) }
 {
     let calendar = optional("calendar", choice_in(contract, "calendar"))?;
@@ -118,7 +118,7 @@ pub(crate) fn may_trade(contract_type: ContractType) -> bool
 
 /// Purchase and termination, of a type that has them.
 #[tactic(auto, unfolding(crate::specs::Common::trades_of))]
-fn read_trades(contract_type: ContractType, contract: &Members) -> Result<Trades, TermsFault>
+fn read_trades(contract_type: ContractType, contract: &Object) -> Result<Trades, TermsFault>
     ensures { result ≡ trades_of contract_type (object_of contract.now) }
 {
     if may_trade(contract_type) {
@@ -134,7 +134,7 @@ fn read_trades(contract_type: ContractType, contract: &Members) -> Result<Trades
 
 /// Purchase and termination.
 #[tactic(auto, unfolding(crate::specs::Common::given_trades_of))]
-fn given_trades(contract: &Members) -> Result<Trades, TermsFault>
+fn given_trades(contract: &Object) -> Result<Trades, TermsFault>
     ensures { result ≡ given_trades_of (object_of contract.now) }
 {
     let purchase = optional_day(contract, "purchaseDate")?;

@@ -1,8 +1,8 @@
 //! A contract of a portfolio file.
 ghost use Rattle.std.specs.Prelude.{◌≡◌, ◌≢◌, Ok, Err, IfOk, IfErr, codes, true, false, option_map};
 ghost use Rattle.std.specs.Str.{bytes_eq};
-ghost use Rattle.serde_json.specs.View.{view};
-ghost use Rattle.act_json.specs.Listed.{object_of};
+ghost use Rattle.act_json.specs.Tree.{data_in};
+ghost use Rattle.act_json.specs.Tree.{object_of};
 ghost use Rattle.act_profile.specs.Built.{IsBuilt};
 ghost use Rattle.act_model.specs.Name.{is_name};
 ghost use Rattle.act_json.specs.Results.{result_map};
@@ -20,9 +20,9 @@ use crate::redemption::{read_ann, read_lam, read_nam};
 use crate::reference::Reference;
 use crate::structure::read_references;
 use crate::swap::{read_capfl, read_swaps, read_swppv};
-use act_json::{JsonFault, Members, text_in};
+use act_json::{JsonFault, Object, text_within};
 use act_model::{ContractType, Kind, Names, Stk, Terms};
-use serde_json::Value;
+use json::Value;
 use std::alloc::Global;
 use std::marker::Model;
 
@@ -73,19 +73,18 @@ pub fn read_contract(
     number: u32,
     mut names: Names,
 ) -> Result<ContractRead, TermsFault>
-    ensures read { IfOk result (λ read. contract_of number names (view contract.now) ≡ Ok (read.named, read.names)) }
+    ensures read { IfOk result (λ read. contract_of number names (data_in contract.now) ≡ Ok (read.named, read.names)) }
     ensures refused { IfErr result (λ fault. fault ≢ TermsFault.NoMemory
-        → contract_of number names (view contract.now) ≡ Err fault) }
+        → contract_of number names (data_in contract.now) ≡ Err fault) }
     ensures name { IfOk result (λ read. is_name read.named.id ≡ true) }
     ensures no_star { IfOk result (λ read. bytes_eq read.named.id (codes "*") ≡ false) }
     ensures built { IfOk result (λ read. IsBuilt read.named.terms.kind) }
     ensures contracts { IfOk result (λ read. read.names.contracts ≡ names.contracts) }
 {
-    let Some(object) = contract.as_object() else {
+    let Some(object) = Object::of(contract) else {
         return Err(refused(TermCause::WrongShape, "-"));
     };
-    let members = Members::of(alloc, object)?;
-    let named = read_named_terms(alloc, &members, number, &mut names)?;
+    let named = read_named_terms(alloc, &object, number, &mut names)?;
     Ok(ContractRead { named, names })
 }
 
@@ -93,7 +92,7 @@ pub fn read_contract(
 #[tactic(auto, unfolding(crate::specs::Contract::named_terms_of))]
 fn read_named_terms(
     alloc: Global,
-    contract: &Members,
+    contract: &Object,
     number: u32,
     names: &mut Names,
 ) -> Result<NamedTerms, TermsFault>
@@ -117,7 +116,7 @@ fn read_named_terms(
 
 /// The type of a contract.
 #[tactic(auto, unfolding(crate::specs::Contract::contract_type))]
-pub(crate) fn contract_type(contract: &Members) -> Result<ContractType, TermsFault>
+pub(crate) fn contract_type(contract: &Object) -> Result<ContractType, TermsFault>
     ensures { result ≡ contract_type (object_of contract.now) }
 {
     type_given(contract.text("contractType"))
@@ -126,9 +125,9 @@ pub(crate) fn contract_type(contract: &Members) -> Result<ContractType, TermsFau
 /// The type of a contract, from its object.
 #[tactic(auto, unfolding(crate::specs::Contract::contract_type))]
 pub(crate) fn type_of_object(contract: &Value) -> Result<ContractType, TermsFault>
-    ensures { result ≡ contract_type (view contract.now) }
+    ensures { result ≡ contract_type (data_in contract.now) }
 {
-    type_given(text_in(contract, "contractType"))
+    type_given(text_within(contract, "contractType"))
 }
 
 /// The type that the text of a contract's type names.
@@ -147,7 +146,7 @@ fn type_given(said: Result<Option<&str>, JsonFault>) -> Result<ContractType, Ter
 fn read_terms(
     alloc: Global,
     contract_type: ContractType,
-    contract: &Members,
+    contract: &Object,
     number: u32,
     names: &mut Names,
 ) -> Result<Terms, TermsFault>
@@ -166,7 +165,7 @@ fn read_terms(
 fn read_kind(
     alloc: Global,
     contract_type: ContractType,
-    contract: &Members,
+    contract: &Object,
     names: &mut Names,
 ) -> Result<Kind, TermsFault>
     ensures read { IfOk result (λ kind. kind_of contract_type names.old (object_of contract.now) ≡ Ok (kind, names.new)) }

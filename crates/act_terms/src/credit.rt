@@ -1,24 +1,24 @@
 //! The terms of guarantees and collateral. What they cover, and what covers it, is bound behind them, to what the contract's
 //! structure refers to.
 ghost use Rattle.std.specs.Prelude.{◌≡◌, ◌≢◌, [], ◌∷◌, Ok, Err, IfOk, IfErr, map};
-ghost use Rattle.serde_json.specs.View.{view};
-ghost use Rattle.act_json.specs.Listed.{object_of};
+ghost use Rattle.act_json.specs.Tree.{data_in};
+ghost use Rattle.act_json.specs.Tree.{object_of};
 ghost use Rattle.act_terms.specs.Credit.{cec_of, ceg_of, credit_event_in, credit_events_from, credit_events_of};
 
 use crate::choices::{Choice, choice_in};
 use crate::exercise::read_settlement_period;
 use crate::fault::{TermCause, TermsFault, refused};
 use crate::fields::{optional, optional_day, optional_decimal};
-use act_json::Members;
+use act_json::Object;
 use act_model::{Cec, Ceg, GuaranteedExposure, ObsKind};
 use act_num::{Fixed, NoMemory};
-use serde_json::Value;
+use json::Value;
 use std::alloc::Global;
 use std::slice;
 
 /// The terms of a CEG.
 #[tactic(auto, unfolding(crate::specs::Credit::ceg_of))]
-pub(crate) fn read_ceg(alloc: Global, contract: &Members) -> Result<Ceg, TermsFault>
+pub(crate) fn read_ceg(alloc: Global, contract: &Object) -> Result<Ceg, TermsFault>
     ensures read { IfOk result (λ ceg. ceg_of (object_of contract.now) ≡ Ok ceg) }
     ensures refused { IfErr result (λ fault. fault ≢ TermsFault.NoMemory → ceg_of (object_of contract.now) ≡ Err fault) }
 {
@@ -42,7 +42,7 @@ pub(crate) fn read_ceg(alloc: Global, contract: &Members) -> Result<Ceg, TermsFa
 
 /// The terms of a CEC: those of a guarantee.
 #[tactic(auto, unfolding(crate::specs::Credit::cec_of))]
-pub(crate) fn read_cec(alloc: Global, contract: &Members) -> Result<Cec, TermsFault>
+pub(crate) fn read_cec(alloc: Global, contract: &Object) -> Result<Cec, TermsFault>
     ensures read { IfOk result (λ cec. cec_of (object_of contract.now) ≡ Ok cec) }
     ensures refused { IfErr result (λ fault. fault ≢ TermsFault.NoMemory → cec_of (object_of contract.now) ≡ Err fault) }
 {
@@ -55,7 +55,7 @@ pub(crate) fn read_cec(alloc: Global, contract: &Members) -> Result<Cec, TermsFa
 
 /// The types of credit events that are covered: a text or a list of texts, and default where none is given.
 #[tactic(auto, using(crate::proofs::Elements::listed_again), unfolding(crate::specs::Credit::credit_events_of))]
-fn read_credit_events(alloc: Global, contract: &Members) -> Result<Vec<ObsKind>, TermsFault>
+fn read_credit_events(alloc: Global, contract: &Object) -> Result<Vec<ObsKind>, TermsFault>
     ensures read { IfOk result (λ types. credit_events_of (object_of contract.now) ≡ Ok types.items) }
     ensures refused { IfErr result (λ fault. fault ≢ TermsFault.NoMemory
         → credit_events_of (object_of contract.now) ≡ Err fault) }
@@ -77,9 +77,9 @@ fn only_default(alloc: Global) -> Result<Vec<ObsKind>, NoMemory>
 
 /// The types that values name, in their order.
 fn credit_events(alloc: Global, values: &[Value]) -> Result<Vec<ObsKind>, TermsFault>
-    ensures read { IfOk result (λ types. credit_events_from (map view values.now) ≡ Ok types.items) }
+    ensures read { IfOk result (λ types. credit_events_from (map data_in values.now) ≡ Ok types.items) }
     ensures refused { IfErr result (λ fault. fault ≢ TermsFault.NoMemory
-        → credit_events_from (map view values.now) ≡ Err fault) }
+        → credit_events_from (map data_in values.now) ≡ Err fault) }
 {
     let mut types = Vec::new(alloc);
     for value in values {
@@ -92,12 +92,12 @@ fn credit_events(alloc: Global, values: &[Value]) -> Result<Vec<ObsKind>, TermsF
 /// The type that a value names.
 #[tactic(auto, unfolding(crate::specs::Credit::credit_event_in))]
 fn credit_event(value: &Value) -> Result<ObsKind, TermsFault>
-    ensures { result ≡ credit_event_in (view value.now) }
+    ensures { result ≡ credit_event_in (data_in value.now) }
 {
     let Value::String(text) = value else {
         return Err(refused(TermCause::WrongShape, "creditEventTypeCovered"));
     };
-    match ObsKind::named(text.as_str()) {
+    match ObsKind::named(text) {
         Some(covered) => Ok(covered),
         None => Err(refused(TermCause::BadValue, "creditEventTypeCovered")),
     }

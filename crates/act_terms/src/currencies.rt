@@ -1,7 +1,7 @@
 //! The names that terms give, and their numbers.
 ghost use Rattle.std.specs.Prelude.{◌≡◌, ◌≢◌, ◌++◌, Ok, Err, Some, true, false, IfOk, IfErr, codes, option_map, string_bytes};
 ghost use Rattle.std.specs.Str.{bytes_eq};
-ghost use Rattle.act_json.specs.Listed.{object_of};
+ghost use Rattle.act_json.specs.Tree.{object_of};
 ghost use Rattle.act_json.specs.Results.{result_map};
 ghost use Rattle.std.specs.Option.{ForSome};
 ghost use Rattle.act_model.specs.Name.{is_currency, is_name};
@@ -10,7 +10,7 @@ ghost use Rattle.act_terms.specs.Names.{code_where, contract_id, currencies_of, 
 
 use crate::fault::{TermCause, TermsFault, refused};
 use crate::fields::{needed, needed_where, optional};
-use act_json::{JsonFault, Members};
+use act_json::{JsonFault, Object};
 use act_model::{ContractType, Names, is_currency};
 use act_num::NoMemory;
 use std::alloc::Global;
@@ -29,7 +29,7 @@ pub(crate) struct Currencies {
 
 /// The contract's name: any name but a star.
 #[tactic(auto, unfolding(crate::specs::Names::contract_id))]
-pub(crate) fn contract_id(alloc: Global, contract: &Members) -> Result<String, TermsFault>
+pub(crate) fn contract_id(alloc: Global, contract: &Object) -> Result<String, TermsFault>
     ensures id { result ≢ Err TermsFault.NoMemory → read_map string_bytes result ≡ contract_id (object_of contract.now) }
     ensures name { IfOk result (λ id. is_name (string_bytes id) ≡ true) }
     ensures no_star { IfOk result (λ id. bytes_eq (string_bytes id) (codes "*") ≡ false) }
@@ -47,7 +47,7 @@ pub(crate) fn code_where(
     alloc: Global,
     wanted: bool,
     term: &'static str,
-    contract: &Members,
+    contract: &Object,
     names: &mut Names,
 ) -> Result<Option<u32>, TermsFault>
     ensures read { IfOk result (λ code. code_where wanted term.now names.old (object_of contract.now) ≡ Ok (code, names.new)) }
@@ -66,7 +66,7 @@ pub(crate) fn code_where(
 pub(crate) fn read_currencies(
     alloc: Global,
     contract_type: ContractType,
-    contract: &Members,
+    contract: &Object,
     names: &mut Names,
 ) -> Result<Currencies, TermsFault>
     ensures read { IfOk result (λ money. currencies_of contract_type names.old (object_of contract.now) ≡ Ok (money, names.new)) }
@@ -98,7 +98,7 @@ pub(crate) fn may_settle(contract_type: ContractType) -> bool
 #[tactic(auto, unfolding(crate::specs::Names::settlement_of))]
 fn settlement_currency<'a>(
     contract_type: ContractType,
-    contract: &Members<'a>,
+    contract: &Object<'_, 'a>,
 ) -> Result<Option<&'a str>, TermsFault>
     ensures read { read_map (option_map (λ text. text.now)) result ≡ settlement_of contract_type (object_of contract.now) }
     ensures name { IfOk result (λ found. ForSome found (λ currency. is_currency currency.now ≡ true)) }
@@ -165,7 +165,7 @@ pub(crate) fn pair_name(alloc: Global, currency: &str, other: &str) -> Result<St
 
 /// The currency that a term names, where it stands in the object. BadName where the text is none. It takes no memory.
 pub(crate) fn currency_in<'a>(
-    contract: &Members<'a>,
+    contract: &Object<'_, 'a>,
     term: &str,
 ) -> Result<Option<&'a str>, JsonFault>
     ensures field { result_map (option_map (λ text. text.now)) result ≡ currency_field term.now (object_of contract.now) }

@@ -1,6 +1,6 @@
 //! The terms of foreign exchange outrights.
 ghost use Rattle.std.specs.Prelude.{◌≡◌, ◌≢◌, Ok, Err, IfOk, IfErr, string_bytes, true};
-ghost use Rattle.act_json.specs.Listed.{object_of};
+ghost use Rattle.act_json.specs.Tree.{object_of};
 ghost use Rattle.act_model.specs.Name.{is_name};
 ghost use Rattle.act_terms.specs.Exchange.{currency2_of, fxout_of, pair_of, rate_name};
 ghost use Rattle.act_terms.specs.Fault.{read_map};
@@ -9,7 +9,7 @@ use crate::choices::choice_in;
 use crate::currencies::{currency_in, pair_name};
 use crate::fault::TermsFault;
 use crate::fields::{needed, needed_day, not_negative, optional};
-use act_json::Members;
+use act_json::Object;
 use act_model::{DeliverySettlement, Fxout, Names};
 use std::alloc::Global;
 
@@ -17,7 +17,7 @@ use std::alloc::Global;
 #[tactic(auto, unfolding(crate::specs::Exchange::fxout_of))]
 pub(crate) fn read_fxout(
     alloc: Global,
-    contract: &Members,
+    contract: &Object,
     names: &mut Names,
 ) -> Result<Fxout, TermsFault>
     ensures read { IfOk result (λ fxout. fxout_of names.old (object_of contract.now) ≡ Ok (fxout, names.new)) }
@@ -52,7 +52,7 @@ pub(crate) fn read_fxout(
 
 /// The number of the other currency.
 #[tactic(auto, using(crate::proofs::CodeNames::currency_is_name), unfolding(crate::specs::Exchange::currency2_of))]
-fn read_currency2(contract: &Members, names: &mut Names) -> Result<u32, TermsFault>
+fn read_currency2(contract: &Object, names: &mut Names) -> Result<u32, TermsFault>
     ensures read { IfOk result (λ currency2. currency2_of names.old (object_of contract.now) ≡ Ok (currency2, names.new)) }
     ensures refused { IfErr result (λ fault. fault ≢ TermsFault.NoMemory
         → currency2_of names.old (object_of contract.now) ≡ Err fault) }
@@ -66,7 +66,7 @@ fn read_currency2(contract: &Members, names: &mut Names) -> Result<u32, TermsFau
 fn read_pair(
     alloc: Global,
     delivery: DeliverySettlement,
-    contract: &Members,
+    contract: &Object,
     names: &mut Names,
 ) -> Result<Option<u32>, TermsFault>
     ensures read { IfOk result (λ pair. pair_of delivery names.old (object_of contract.now) ≡ Ok (pair, names.new)) }
@@ -84,7 +84,7 @@ fn read_pair(
 
 /// The name of the rate of the other currency in the contract's, as `USD/EUR`.
 #[tactic(auto, using(crate::proofs::CodeNames::pair_is_name), unfolding(crate::specs::Exchange::rate_name))]
-fn rate_name(alloc: Global, contract: &Members) -> Result<String, TermsFault>
+fn rate_name(alloc: Global, contract: &Object) -> Result<String, TermsFault>
     ensures name { result ≢ Err TermsFault.NoMemory → read_map string_bytes result ≡ rate_name (object_of contract.now) }
     ensures is_name { IfOk result (λ pair. is_name (string_bytes pair) ≡ true) }
 {

@@ -1,13 +1,13 @@
 //! The terms of options and futures. The underlying is bound behind them, to what the contract's structure refers to.
 ghost use Rattle.std.specs.Prelude.{◌≡◌};
-ghost use Rattle.act_json.specs.Listed.{object_of};
+ghost use Rattle.act_json.specs.Tree.{object_of};
 ghost use Rattle.act_terms.specs.Exercise.{futur_of, has_two_strikes, optns_of, settlement_period_of};
 
 use crate::choices::choice_in;
 use crate::fault::TermsFault;
 use crate::fields::{needed, needed_day, needed_where, optional};
 use act_date::{Cycle, Stub, Unit};
-use act_json::Members;
+use act_json::Object;
 use act_model::{ExerciseType, Futur, OptionType, Optns};
 
 /// No time, `P0D`.
@@ -19,7 +19,7 @@ const NO_TIME: Cycle = Cycle {
 
 /// The terms of an OPTNS. A call and put has two strikes.
 #[tactic(auto, unfolding(crate::specs::Exercise::optns_of))]
-pub(crate) fn read_optns(contract: &Members) -> Result<Optns, TermsFault>
+pub(crate) fn read_optns(contract: &Object) -> Result<Optns, TermsFault>
     ensures { result ≡ optns_of (object_of contract.now) }
 {
     let maturity_date = needed_day(contract, "maturityDate")?;
@@ -58,7 +58,7 @@ fn has_two_strikes(option_type: OptionType) -> bool
 
 /// The terms of a FUTUR.
 #[tactic(auto, unfolding(crate::specs::Exercise::futur_of))]
-pub(crate) fn read_futur(contract: &Members) -> Result<Futur, TermsFault>
+pub(crate) fn read_futur(contract: &Object) -> Result<Futur, TermsFault>
     ensures { result ≡ futur_of (object_of contract.now) }
 {
     let maturity_date = needed_day(contract, "maturityDate")?;
@@ -74,7 +74,7 @@ pub(crate) fn read_futur(contract: &Members) -> Result<Futur, TermsFault>
 
 /// The time from exercise to payment.
 #[tactic(auto, unfolding(crate::specs::Exercise::settlement_period_of))]
-pub(crate) fn read_settlement_period(contract: &Members) -> Result<Cycle, TermsFault>
+pub(crate) fn read_settlement_period(contract: &Object) -> Result<Cycle, TermsFault>
     ensures { result ≡ settlement_period_of (object_of contract.now) }
 {
     let given = optional("settlementPeriod", contract.period("settlementPeriod"))?;

@@ -1,12 +1,12 @@
 //! Terms that are required, that may be left out, and that have a bound.
 ghost use Rattle.std.specs.Prelude.{◌≡◌, IfOk, IsTrue, is_some, true};
-ghost use Rattle.act_json.specs.Listed.{object_of};
+ghost use Rattle.act_json.specs.Tree.{object_of};
 ghost use Rattle.act_profile.specs.Built.{LeadsOn};
 ghost use Rattle.act_terms.specs.Fields.{cycle_where, day_after, needed, needed_day, needed_where, not_negative, optional, optional_cycle, optional_day, optional_decimal, positive};
 
 use crate::fault::{TermCause, TermsFault, fault_at, refused};
 use act_date::{Cycle, Day};
-use act_json::{JsonFault, Members};
+use act_json::{JsonFault, Object};
 use act_num::Fixed;
 
 /// What a term that may be left out gives.
@@ -53,10 +53,7 @@ pub(crate) fn needed_where<T>(
 
 /// The day of a term that may be left out.
 #[tactic(auto, unfolding(crate::specs::Fields::optional_day))]
-pub(crate) fn optional_day(
-    contract: &Members,
-    term: &'static str,
-) -> Result<Option<Day>, TermsFault>
+pub(crate) fn optional_day(contract: &Object, term: &'static str) -> Result<Option<Day>, TermsFault>
     ensures { result ≡ optional_day term.now (object_of contract.now) }
 {
     optional(term, contract.day(term))
@@ -65,7 +62,7 @@ pub(crate) fn optional_day(
 /// The number of a term that may be left out.
 #[tactic(auto, unfolding(crate::specs::Fields::optional_decimal))]
 pub(crate) fn optional_decimal(
-    contract: &Members,
+    contract: &Object,
     term: &'static str,
 ) -> Result<Option<Fixed>, TermsFault>
     ensures { result ≡ optional_decimal term.now (object_of contract.now) }
@@ -76,7 +73,7 @@ pub(crate) fn optional_decimal(
 /// The cycle of a term that may be left out; its period has at least one unit.
 #[tactic(auto, unfolding(crate::specs::Fields::optional_cycle))]
 pub(crate) fn optional_cycle(
-    contract: &Members,
+    contract: &Object,
     term: &'static str,
 ) -> Result<Option<Cycle>, TermsFault>
     ensures cycle { result ≡ optional_cycle term.now (object_of contract.now) }
@@ -89,7 +86,7 @@ pub(crate) fn optional_cycle(
 #[tactic(auto, unfolding(crate::specs::Fields::cycle_where))]
 pub(crate) fn cycle_where(
     wanted: bool,
-    contract: &Members,
+    contract: &Object,
     term: &'static str,
 ) -> Result<Option<Cycle>, TermsFault>
     ensures cycle { result ≡ cycle_where wanted term.now (object_of contract.now) }
@@ -101,7 +98,7 @@ pub(crate) fn cycle_where(
 
 /// The day of a term that is required.
 #[tactic(auto, unfolding(crate::specs::Fields::needed_day))]
-pub(crate) fn needed_day(contract: &Members, term: &'static str) -> Result<Day, TermsFault>
+pub(crate) fn needed_day(contract: &Object, term: &'static str) -> Result<Day, TermsFault>
     ensures { result ≡ needed_day term.now (object_of contract.now) }
 {
     needed(term, contract.day(term))
@@ -109,11 +106,7 @@ pub(crate) fn needed_day(contract: &Members, term: &'static str) -> Result<Day, 
 
 /// A day after another one, or BadValue.
 #[tactic(auto, unfolding(crate::specs::Fields::day_after))]
-pub(crate) fn day_after(
-    first: Day,
-    contract: &Members,
-    term: &str,
-) -> Result<Option<Day>, JsonFault>
+pub(crate) fn day_after(first: Day, contract: &Object, term: &str) -> Result<Option<Day>, JsonFault>
     ensures { result ≡ day_after first term.now (object_of contract.now) }
 {
     match contract.day(term)? {
@@ -124,7 +117,7 @@ pub(crate) fn day_after(
 
 /// A number that isn't negative, or BadValue.
 #[tactic(auto, unfolding(crate::specs::Fields::not_negative))]
-pub(crate) fn not_negative(contract: &Members, term: &str) -> Result<Option<Fixed>, JsonFault>
+pub(crate) fn not_negative(contract: &Object, term: &str) -> Result<Option<Fixed>, JsonFault>
     ensures { result ≡ not_negative term.now (object_of contract.now) }
 {
     match contract.decimal(term)? {
@@ -135,7 +128,7 @@ pub(crate) fn not_negative(contract: &Members, term: &str) -> Result<Option<Fixe
 
 /// A number above 0, or BadValue.
 #[tactic(auto, unfolding(crate::specs::Fields::positive))]
-pub(crate) fn positive(contract: &Members, term: &str) -> Result<Option<Fixed>, JsonFault>
+pub(crate) fn positive(contract: &Object, term: &str) -> Result<Option<Fixed>, JsonFault>
     ensures { result ≡ positive term.now (object_of contract.now) }
 {
     match contract.decimal(term)? {

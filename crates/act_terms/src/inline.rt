@@ -1,25 +1,35 @@
 //! Contracts that stand in the structures of others.
-ghost use Rattle.std.specs.Prelude.{◌≡◌, ◌++◌, ◌<◌, IfOk, OnOk, codes, map, option_map};
+ghost use Rattle.std.specs.Prelude.{[], ◌≡◌, ◌++◌, ◌<◌, IfOk, OnOk, codes, map, option_map};
 ghost use Rattle.std.specs.List.{All, filter_map, list_any};
 ghost use Rattle.std.specs.Option.{ForSome};
 ghost use Rattle.serde_json.specs.Data.{depth};
 ghost use Rattle.serde_json.specs.Find.{get};
-ghost use Rattle.serde_json.specs.View.{view};
+ghost use Rattle.act_json.specs.Tree.{data_in};
 ghost use Rattle.act_terms.specs.Inline.{contract_in, elements_where_listed, has_inline, has_object, in_portfolio_order, inline_contracts, is_inside, with_inline};
 
 use crate::choices::choice_within;
 use crate::contract::type_of_object;
 use crate::reference::ReferenceType;
 use crate::structure::{has_structure, inner_object};
-use act_json::JsonFault;
+use act_json::{JsonFault, member};
 use act_num::NoMemory;
-use serde_json::Value;
+use json::Value;
 use std::alloc::Global;
+
+/// A contract of a file, where it stands in the file's JSON tree.
+#[derive(Clone, Copy)]
+pub struct ContractValue<'v, 'a> {
+    /// The contract's JSON value, an object or not.
+    pub value: &'v Value<'a>,
+}
 
 /// The contracts of a file in portfolio order: behind each directly those that stand in its structure, each with those that
 /// stand in it.
-pub fn in_portfolio_order(alloc: Global, contracts: &[Value]) -> Result<Vec<&Value>, NoMemory>
-    ensures { IfOk result (λ order. map (λ c. view c.now) order.items ≡ in_portfolio_order (map view contracts.now)) }
+pub fn in_portfolio_order<'v, 'a>(
+    alloc: Global,
+    contracts: &'v [Value<'a>],
+) -> Result<Vec<ContractValue<'v, 'a>>, NoMemory>
+    ensures { IfOk result (λ order. map (λ c. data_in c.value.now) order.items ≡ in_portfolio_order (map data_in contracts.now)) }
 {
     let mut order = Vec::with_capacity(alloc, contracts.len())?;
     for contract in contracts {
@@ -29,11 +39,14 @@ pub fn in_portfolio_order(alloc: Global, contracts: &[Value]) -> Result<Vec<&Val
 }
 
 /// Adds a contract, and behind it those that stand in it.
-fn add_contract<'a>(contract: &'a Value, order: &mut Vec<&'a Value>) -> Result<(), NoMemory>
-    ensures { OnOk result (map (λ c. view c.now) order.new.items
-        ≡ map (λ c. view c.now) order.old.items ++ with_inline (view contract.now)) }
+fn add_contract<'v, 'a>(
+    contract: &'v Value<'a>,
+    order: &mut Vec<ContractValue<'v, 'a>>,
+) -> Result<(), NoMemory>
+    ensures { OnOk result (map (λ c. data_in c.value.now) order.new.items
+        ≡ map (λ c. data_in c.value.now) order.old.items ++ with_inline (data_in contract.now)) }
 {
-    order.push(contract)?;
+    order.push(ContractValue { value: contract })?;
     for element in elements(contract) {
         if let Some(inner) = contract_in(element) {
             add_contract(inner, order)?;
@@ -43,33 +56,40 @@ fn add_contract<'a>(contract: &'a Value, order: &mut Vec<&'a Value>) -> Result<(
 }
 
 /// The elements of a contract's structure, or none where no contract stands in them.
-fn elements(contract: &Value) -> &[Value]
-    ensures inner { filter_map contract_in (map view result.now) ≡ inline_contracts (view contract.now) }
-    ensures lower { All (λ element. depth (view element) < depth (view contract.now)) result.now }
+fn elements<'v, 'a>(contract: &'v Value<'a>) -> &'v [Value<'a>]
+    ensures inner { filter_map contract_in (map data_in result.now) ≡ inline_contracts (data_in contract.now) }
+    ensures lower { All (λ element. depth (data_in element) < depth (data_in contract.now)) result.now }
 {
     let elements = listed(contract);
     if have_objects(elements) && has_inline(contract) {
         elements
     } else {
-        &[]
+        no_elements()
     }
 }
 
 /// The elements of a structure that is a list.
 #[tactic(auto, using(crate::proofs::Elements::listed_again))]
-fn listed(contract: &Value) -> &[Value]
-    ensures elements { map view result.now ≡ elements_where_listed (get (codes "contractStructure") (view contract.now)) }
-    ensures lower { All (λ element. depth (view element) < depth (view contract.now)) result.now }
+fn listed<'v, 'a>(contract: &'v Value<'a>) -> &'v [Value<'a>]
+    ensures elements { map data_in result.now ≡ elements_where_listed (get (codes "contractStructure") (data_in contract.now)) }
+    ensures lower { All (λ element. depth (data_in element) < depth (data_in contract.now)) result.now }
 {
-    match contract.get("contractStructure") {
+    match member(contract, "contractStructure") {
         Some(Value::Array(elements)) => elements.as_slice(),
-        _ => &[],
+        _ => no_elements(),
     }
+}
+
+/// No elements.
+fn no_elements<'v, 'a>() -> &'v [Value<'a>]
+    ensures { result.now ≡ [] }
+{
+    &[]
 }
 
 /// Whether an object stands in one of the elements.
 fn have_objects(elements: &[Value]) -> bool
-    ensures { result ≡ list_any has_object (map view elements.now) }
+    ensures { result ≡ list_any has_object (map data_in elements.now) }
 {
     elements
         .iter()
@@ -78,7 +98,7 @@ fn have_objects(elements: &[Value]) -> bool
 
 /// Whether contracts may stand in a contract: it is of a type that has a structure.
 fn has_inline(contract: &Value) -> bool
-    ensures { result ≡ has_inline (view contract.now) }
+    ensures { result ≡ has_inline (data_in contract.now) }
 {
     match type_of_object(contract) {
         Ok(contract_type) => has_structure(contract_type),
@@ -87,9 +107,9 @@ fn has_inline(contract: &Value) -> bool
 }
 
 /// The contract that stands in an element, where one does.
-fn contract_in(element: &Value) -> Option<&Value>
-    ensures inner { option_map (λ inner. view inner.now) result ≡ contract_in (view element.now) }
-    ensures lower { ForSome result (λ inner. depth (view inner.now) < depth (view element.now)) }
+fn contract_in<'v, 'a>(element: &'v Value<'a>) -> Option<&'v Value<'a>>
+    ensures inner { option_map (λ inner. data_in inner.now) result ≡ contract_in (data_in element.now) }
+    ensures lower { ForSome result (λ inner. depth (data_in inner.now) < depth (data_in element.now)) }
 {
     if is_inside(choice_within(element, "referenceType")) {
         inner_object(element)

@@ -1,6 +1,6 @@
 //! The terms of a loan's interest.
 ghost use Rattle.std.specs.Prelude.{◌≡◌, IfOk};
-ghost use Rattle.act_json.specs.Listed.{object_of};
+ghost use Rattle.act_json.specs.Tree.{object_of};
 ghost use Rattle.act_profile.specs.Built.{LeadsOn};
 ghost use Rattle.act_terms.specs.Loan.{interest_dates_of, interest_of};
 
@@ -8,7 +8,7 @@ use crate::choices::choice_in;
 use crate::fault::TermsFault;
 use crate::fields::{optional, optional_cycle, optional_day, optional_decimal};
 use act_date::{Cycle, Day, DayCount};
-use act_json::Members;
+use act_json::Object;
 use act_num::Fixed;
 
 /// The rate, what has accrued, the premium, and how parts of a year are counted.
@@ -30,7 +30,7 @@ pub(crate) struct InterestDates {
 
 /// The rate, what has accrued, the premium, and how parts of a year are counted.
 #[tactic(auto, unfolding(crate::specs::Loan::interest_of))]
-pub(crate) fn read_interest(contract: &Members) -> Result<Interest, TermsFault>
+pub(crate) fn read_interest(contract: &Object) -> Result<Interest, TermsFault>
     ensures { result ≡ interest_of (object_of contract.now) }
 {
     let rate = optional_decimal(contract, "nominalInterestRate")?;
@@ -50,7 +50,7 @@ pub(crate) fn read_interest(contract: &Members) -> Result<Interest, TermsFault>
 
 /// The dates of interest, and the end of its capitalisation.
 #[tactic(auto, unfolding(crate::specs::Loan::interest_dates_of))]
-pub(crate) fn read_interest_dates(contract: &Members) -> Result<InterestDates, TermsFault>
+pub(crate) fn read_interest_dates(contract: &Object) -> Result<InterestDates, TermsFault>
     ensures dates { result ≡ interest_dates_of (object_of contract.now) }
     ensures cycle { IfOk result (λ dates. LeadsOn dates.cycle_of_interest_payment) }
 {

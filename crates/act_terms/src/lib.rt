@@ -26,6 +26,6 @@ mod used;
 
 pub use contract::{ContractRead, NamedTerms, read_contract};
 pub use fault::{TermCause, TermFault, TermsFault};
-pub use inline::in_portfolio_order;
+pub use inline::{ContractValue, in_portfolio_order};
 pub use reference::{Reference, ReferenceRole, Referred};
 pub use used::unused_names;

@@ -1,6 +1,6 @@
 //! The terms of loans.
 ghost use Rattle.std.specs.Prelude.{◌≡◌, ◌≢◌, Ok, Err, IfOk, IfErr};
-ghost use Rattle.act_json.specs.Listed.{object_of};
+ghost use Rattle.act_json.specs.Tree.{object_of};
 ghost use Rattle.act_terms.specs.Loan.{loan_of, pam_of};
 ghost use Rattle.act_profile.specs.Built.{LoanLeadsOn};
 
@@ -12,7 +12,7 @@ use crate::penalty::{read_penalty, reset_code_for};
 use crate::reset::read_rate_reset;
 use crate::scaling::read_scaling;
 use act_date::Day;
-use act_json::Members;
+use act_json::Object;
 use act_model::{Loan, Names, Pam};
 use std::alloc::Global;
 
@@ -20,7 +20,7 @@ use std::alloc::Global;
 #[tactic(auto, unfolding(crate::specs::Loan::pam_of))]
 pub(crate) fn read_pam(
     alloc: Global,
-    contract: &Members,
+    contract: &Object,
     names: &mut Names,
 ) -> Result<Pam, TermsFault>
     ensures read { IfOk result (λ pam. pam_of names.old (object_of contract.now) ≡ Ok (pam, names.new)) }
@@ -45,7 +45,7 @@ pub(crate) fn read_pam(
 pub(crate) fn read_loan(
     alloc: Global,
     exchange: Day,
-    contract: &Members,
+    contract: &Object,
     names: &mut Names,
 ) -> Result<Loan, TermsFault>
     ensures read { IfOk result (λ loan. loan_of exchange names.old (object_of contract.now) ≡ Ok (loan, names.new)) }

@@ -1,12 +1,12 @@
 //! The terms of penalties of prepayments.
 ghost use Rattle.std.specs.Prelude.{◌≡◌};
-ghost use Rattle.act_json.specs.Listed.{object_of};
+ghost use Rattle.act_json.specs.Tree.{object_of};
 ghost use Rattle.act_terms.specs.Loan.{penalty_of, reset_code_for};
 
 use crate::choices::choice_in;
 use crate::fault::{TermCause, TermsFault, refused};
 use crate::fields::{optional, optional_decimal};
-use act_json::Members;
+use act_json::Object;
 use act_model::PenaltyType;
 use act_num::Fixed;
 
@@ -19,7 +19,7 @@ pub(crate) struct Penalty {
 
 /// The penalty of a prepayment.
 #[tactic(auto, unfolding(crate::specs::Loan::penalty_of))]
-pub(crate) fn read_penalty(contract: &Members) -> Result<Penalty, TermsFault>
+pub(crate) fn read_penalty(contract: &Object) -> Result<Penalty, TermsFault>
     ensures { result ≡ penalty_of (object_of contract.now) }
 {
     let penalty_type = optional("penaltyType", choice_in(contract, "penaltyType"))?;

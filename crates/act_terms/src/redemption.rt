@@ -1,7 +1,7 @@
 //! The terms of loans whose principal is redeemed.
 ghost use Rattle.std.specs.Prelude.{◌≡◌, ◌≢◌, ◌&&◌, not, Ok, Err, None, IfOk, IfErr, IsTrue, is_some, int_lt, pos, false, true};
 ghost use Rattle.std.specs.Option.{ForSome};
-ghost use Rattle.act_json.specs.Listed.{object_of};
+ghost use Rattle.act_json.specs.Tree.{object_of};
 ghost use Rattle.act_profile.specs.Built.{AmortizingLeadsOn, LamIsBuilt, LeadsOn};
 ghost use Rattle.act_terms.specs.Redemption.{ann_of, calculation_base_of, lam_of, lam_payment_of, nam_of, redemption_dates_of, redemption_with};
 
@@ -13,7 +13,7 @@ use crate::fields::{
 };
 use crate::loan::{read_loan, read_pam};
 use act_date::{Cycle, Day};
-use act_json::Members;
+use act_json::Object;
 use act_model::{Ann, InterestCalculationBase, Lam, Nam, Names, Redemption};
 use act_num::Fixed;
 use std::alloc::Global;
@@ -38,7 +38,7 @@ struct CalculationBase {
 #[tactic(auto, unfolding(crate::specs::Redemption::lam_of))]
 pub(crate) fn read_lam(
     alloc: Global,
-    contract: &Members,
+    contract: &Object,
     names: &mut Names,
 ) -> Result<Lam, TermsFault>
     ensures read { IfOk result (λ lam. lam_of names.old (object_of contract.now) ≡ Ok (lam, names.new)) }
@@ -67,7 +67,7 @@ pub(crate) fn read_lam(
 #[tactic(auto, unfolding(crate::specs::Redemption::nam_of))]
 pub(crate) fn read_nam(
     alloc: Global,
-    contract: &Members,
+    contract: &Object,
     names: &mut Names,
 ) -> Result<Nam, TermsFault>
     ensures read { IfOk result (λ nam. nam_of names.old (object_of contract.now) ≡ Ok (nam, names.new)) }
@@ -94,7 +94,7 @@ pub(crate) fn read_nam(
 #[tactic(auto, unfolding(crate::specs::Redemption::ann_of))]
 pub(crate) fn read_ann(
     alloc: Global,
-    contract: &Members,
+    contract: &Object,
     names: &mut Names,
 ) -> Result<Ann, TermsFault>
     ensures read { IfOk result (λ ann. ann_of names.old (object_of contract.now) ≡ Ok (ann, names.new)) }
@@ -118,7 +118,7 @@ pub(crate) fn read_ann(
 #[tactic(auto, unfolding(crate::specs::Redemption::redemption_dates_of))]
 fn read_redemption_dates(
     has_maturity: bool,
-    contract: &Members,
+    contract: &Object,
 ) -> Result<RedemptionDates, TermsFault>
     ensures dates { result ≡ redemption_dates_of has_maturity (object_of contract.now) }
     ensures cycle { IfOk result (λ dates. LeadsOn dates.cycle_of_principal_redemption) }
@@ -146,7 +146,7 @@ fn needs_cycle(has_maturity: bool, anchor: &Option<Day>) -> bool
 
 /// The payment of a LAM. Where no maturity is given it is required, and above 0.
 #[tactic(auto, unfolding(crate::specs::Redemption::lam_payment_of))]
-fn read_lam_payment(maturity: Option<Day>, contract: &Members) -> Result<Option<Fixed>, TermsFault>
+fn read_lam_payment(maturity: Option<Day>, contract: &Object) -> Result<Option<Fixed>, TermsFault>
     ensures payment { result ≡ lam_payment_of maturity (object_of contract.now) }
     ensures above_zero { IfOk result (λ payment. maturity ≡ None
         → ForSome payment (λ p. int_lt (pos 0) p ≡ true)) }
@@ -164,7 +164,7 @@ fn read_lam_payment(maturity: Option<Day>, contract: &Members) -> Result<Option<
 
 /// What interest is computed on, and the days on which that is set to the notional.
 #[tactic(auto, unfolding(crate::specs::Redemption::calculation_base_of))]
-fn read_calculation_base(contract: &Members) -> Result<CalculationBase, TermsFault>
+fn read_calculation_base(contract: &Object) -> Result<CalculationBase, TermsFault>
     ensures base { result ≡ calculation_base_of (object_of contract.now) }
     ensures cycle { IfOk result (λ base. LeadsOn base.cycle_of_interest_calculation_base) }
 {

@@ -1,6 +1,6 @@
 //! The terms of rate resets.
 ghost use Rattle.std.specs.Prelude.{◌≡◌, ◌≢◌, ◌||◌, Ok, Err, IfOk, IfErr, is_some};
-ghost use Rattle.act_json.specs.Listed.{object_of};
+ghost use Rattle.act_json.specs.Tree.{object_of};
 ghost use Rattle.act_profile.specs.Built.{LeadsOn};
 ghost use Rattle.act_terms.specs.Loan.{rate_limits_of, rate_reset_of};
 
@@ -8,7 +8,7 @@ use crate::currencies::code_where;
 use crate::fault::TermsFault;
 use crate::fields::{optional_cycle, optional_day, optional_decimal};
 use act_date::{Cycle, Day};
-use act_json::Members;
+use act_json::Object;
 use act_model::{Names, RateReset};
 use act_num::Fixed;
 use std::alloc::Global;
@@ -26,7 +26,7 @@ struct RateLimits {
 #[tactic(auto, unfolding(crate::specs::Loan::rate_reset_of))]
 pub(crate) fn read_rate_reset(
     alloc: Global,
-    contract: &Members,
+    contract: &Object,
     names: &mut Names,
 ) -> Result<RateReset, TermsFault>
     ensures read { IfOk result (λ reset. rate_reset_of names.old (object_of contract.now) ≡ Ok (reset, names.new)) }
@@ -70,7 +70,7 @@ fn is_reset(anchor: &Option<Day>, cycle: &Option<Cycle>) -> bool
 
 /// The greatest and the least rate, and the greatest and the least change at one reset.
 #[tactic(auto, unfolding(crate::specs::Loan::rate_limits_of))]
-fn read_rate_limits(contract: &Members) -> Result<RateLimits, TermsFault>
+fn read_rate_limits(contract: &Object) -> Result<RateLimits, TermsFault>
     ensures { result ≡ rate_limits_of (object_of contract.now) }
 {
     Ok(RateLimits {

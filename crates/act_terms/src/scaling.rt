@@ -1,6 +1,6 @@
 //! The terms of a loan's scaling.
 ghost use Rattle.std.specs.Prelude.{◌≡◌, ◌≢◌, Ok, Err, IfOk, IfErr};
-ghost use Rattle.act_json.specs.Listed.{object_of};
+ghost use Rattle.act_json.specs.Tree.{object_of};
 ghost use Rattle.act_profile.specs.Built.{LeadsOn};
 ghost use Rattle.act_terms.specs.Loan.{no_effect, scales, scaling_of};
 
@@ -8,7 +8,7 @@ use crate::choices::choice_in;
 use crate::currencies::code_where;
 use crate::fault::TermsFault;
 use crate::fields::{needed_where, optional, optional_cycle, optional_day, positive};
-use act_json::Members;
+use act_json::Object;
 use act_model::{Names, Scaling, ScalingEffect};
 use std::alloc::Global;
 
@@ -22,7 +22,7 @@ const NO_EFFECT: ScalingEffect = ScalingEffect {
 #[tactic(auto, unfolding(crate::specs::Loan::scaling_of))]
 pub(crate) fn read_scaling(
     alloc: Global,
-    contract: &Members,
+    contract: &Object,
     names: &mut Names,
 ) -> Result<Scaling, TermsFault>
     ensures read { IfOk result (λ scaling. scaling_of names.old (object_of contract.now) ≡ Ok (scaling, names.new)) }

@@ -1,7 +1,7 @@
 //! The terms of swaps, caps and floors. What a swap of two contracts and a cap and floor refer to is bound behind them, to
 //! what the contract's structure refers to.
 ghost use Rattle.std.specs.Prelude.{◌≡◌, ◌≢◌, Ok, Err, IfOk, IfErr};
-ghost use Rattle.act_json.specs.Listed.{object_of};
+ghost use Rattle.act_json.specs.Tree.{object_of};
 ghost use Rattle.act_profile.specs.Built.{LeadsOn, PlainSwapLeadsOn};
 ghost use Rattle.act_terms.specs.Swap.{capfl_of, limited, plain_interest_of, swaps_of, swppv_of};
 
@@ -13,7 +13,7 @@ use crate::fields::{
 };
 use crate::reset::read_rate_reset;
 use act_date::{Cycle, Day, DayCount};
-use act_json::Members;
+use act_json::Object;
 use act_model::{Capfl, DeliverySettlement, Names, Swaps, Swppv};
 use act_num::Fixed;
 use std::alloc::Global;
@@ -32,7 +32,7 @@ struct PlainInterest {
 #[tactic(auto, unfolding(crate::specs::Swap::swppv_of))]
 pub(crate) fn read_swppv(
     alloc: Global,
-    contract: &Members,
+    contract: &Object,
     names: &mut Names,
 ) -> Result<Swppv, TermsFault>
     ensures read { IfOk result (λ swppv. swppv_of names.old (object_of contract.now) ≡ Ok (swppv, names.new)) }
@@ -66,7 +66,7 @@ pub(crate) fn read_swppv(
 
 /// Both rates of a plain swap, how parts of a year are counted, and the dates of interest.
 #[tactic(auto, unfolding(crate::specs::Swap::plain_interest_of))]
-fn read_plain_interest(contract: &Members) -> Result<PlainInterest, TermsFault>
+fn read_plain_interest(contract: &Object) -> Result<PlainInterest, TermsFault>
     ensures interest { result ≡ plain_interest_of (object_of contract.now) }
     ensures cycle { IfOk result (λ interest. LeadsOn interest.cycle_of_interest_payment) }
 {
@@ -92,7 +92,7 @@ fn read_plain_interest(contract: &Members) -> Result<PlainInterest, TermsFault>
 
 /// The terms of a SWAPS.
 #[tactic(auto, unfolding(crate::specs::Swap::swaps_of))]
-pub(crate) fn read_swaps(contract: &Members) -> Result<Swaps, TermsFault>
+pub(crate) fn read_swaps(contract: &Object) -> Result<Swaps, TermsFault>
     ensures { result ≡ swaps_of (object_of contract.now) }
 {
     let delivery = optional(
@@ -109,7 +109,7 @@ pub(crate) fn read_swaps(contract: &Members) -> Result<Swaps, TermsFault>
 
 /// The terms of a CAPFL, which has a cap, a floor or both.
 #[tactic(auto, unfolding(crate::specs::Swap::capfl_of))]
-pub(crate) fn read_capfl(contract: &Members) -> Result<Capfl, TermsFault>
+pub(crate) fn read_capfl(contract: &Object) -> Result<Capfl, TermsFault>
     ensures { result ≡ capfl_of (object_of contract.now) }
 {
     let maturity_date = optional_day(contract, "maturityDate")?;

@@ -1,14 +1,16 @@
 //! Which names of a contract's object are terms of its type.
 ghost use Rattle.std.specs.Prelude.{◌≡◌, ◌∷◌, ◌++◌, [], IfOk, OnOk, map, string_bytes};
-ghost use Rattle.serde_json.specs.View.{view};
+ghost use Rattle.act_json.specs.Tree.{data_in};
 ghost use Rattle.act_terms.specs.Used.{common_terms, is_among, is_term_of, own_terms, settlement_terms, shared_terms, trade_terms, unused_names};
 
 use crate::common::may_trade;
 use crate::currencies::may_settle;
+use act_json::Object;
 use act_model::ContractType;
 use act_num::NoMemory;
-use serde_json::Value;
+use json::Value;
 use std::alloc::Global;
+use std::collections::BTreeSet;
 
 /// The terms that every contract has, in the order in which they are read. All but an outright have `settlementCurrency`
 /// besides, and all but guarantees purchase and termination.
@@ -153,26 +155,29 @@ pub fn unused_names(
     contract_type: ContractType,
     contract: &Value,
 ) -> Result<Vec<String>, NoMemory>
-    ensures { IfOk result (λ unused. map string_bytes unused.items ≡ unused_names contract_type (view contract.now)) }
+    ensures { IfOk result (λ unused. map string_bytes unused.items ≡ unused_names contract_type (data_in contract.now)) }
 {
-    let mut unused = Vec::new(alloc);
-    let Some(object) = contract.as_object() else {
-        return Ok(unused);
+    let Some(object) = Object::of(contract) else {
+        return Ok(Vec::new(alloc));
     };
-    for (name, _) in object {
-        if !is_term_of(contract_type, name.as_str()) {
-            push_name(&mut unused, name.as_str())?;
+    let mut unused = BTreeSet::new(alloc);
+    for (name, _) in object.members() {
+        if !is_term_of(contract_type, name) {
+            unused.insert(*name)?;
         }
     }
-    Ok(unused)
+    copies(alloc, &unused)
 }
 
-/// Adds a name.
-fn push_name(names: &mut Vec<String>, name: &str) -> Result<(), NoMemory>
-    ensures { OnOk result (map string_bytes names.new.items ≡ map string_bytes names.old.items ++ name.now ∷ []) }
+/// Copies of names, in byte order.
+fn copies(alloc: Global, names: &BTreeSet<&str>) -> Result<Vec<String>, NoMemory>
+    ensures { IfOk result (λ copies. map string_bytes copies.items ≡ map (λ n. n.now) names.now.keys) }
 {
-    let name = String::from_str(*names.allocator(), name)?;
-    Ok(names.push(name)?)
+    let mut copies = Vec::with_capacity(alloc, names.len())?;
+    for name in names {
+        copies.push(String::from_str(alloc, name)?)?;
+    }
+    Ok(copies)
 }
 
 /// Whether a name is a term of that type.

@@ -60,6 +60,56 @@ impl Print for Kept {
     }
 }
 
+/// An output that takes at most 1,000 bytes of a piece, once it was interrupted so often.
+#[derive(Drop)]
+struct Slow {
+    kept: Kept,
+    interruptions: RefCell<u32>,
+}
+
+impl Slow {
+    fn new(alloc: Global, interruptions: u32) -> Slow {
+        Slow {
+            kept: Kept::new(alloc, 100),
+            interruptions: RefCell::new(interruptions),
+        }
+    }
+
+    /// Whether it is interrupted once more.
+    fn is_interrupted(&self) -> bool {
+        match self.interruptions.try_borrow_mut() {
+            Ok(mut left) if *left > 0 => {
+                *left -= 1;
+                true
+            }
+            _ => false,
+        }
+    }
+}
+
+impl Print for Slow {
+    fn print<D: Display + Drop>(&self, value: D) -> Written<()> {
+        self.kept.print(value)
+    }
+
+    fn println<D: Display + Drop>(&self, value: D) -> Written<()> {
+        self.kept.println(value)
+    }
+
+    fn write_all(&self, bytes: &[u8]) -> Written<()> {
+        self.kept.write_all(bytes)
+    }
+
+    fn write_some(&self, bytes: &[u8]) -> Written<usize> {
+        if self.is_interrupted() {
+            return Err(Error::from(ErrorKind::Interrupted));
+        }
+        let taken = bytes.len().min(1000);
+        self.kept.write_all(&bytes[..taken])?;
+        Ok(taken)
+    }
+}
+
 #[test]
 fn a_large_text_is_written_behind_what_is_gathered(rt: HostRuntime) -> Result<(), Fail> {
     let alloc = rt.alloc();
@@ -87,5 +137,33 @@ fn a_large_text_that_is_not_written_is_a_fault(rt: HostRuntime) -> Result<(), Fa
     assert_eq!(rt; sink.put(b"one\n"), Ok(4));
     assert_eq!(rt; sink.put_lines(&large), Err(PutFault::Failed));
     assert!(rt; kept.has(b"one\n|"));
+    Ok(())
+}
+
+#[test]
+fn a_large_text_is_taken_in_part_once_it_was_interrupted(rt: HostRuntime) -> Result<(), Fail> {
+    let alloc = rt.alloc();
+    let large = vec![in alloc; b'x'; 4096]?;
+    let slow = Slow::new(alloc, 3);
+    let mut sink = StdSink::new(alloc, &slow);
+    assert_eq!(rt; sink.put(b"one\n"), Ok(4));
+    assert_eq!(rt; sink.put_lines(&large), Ok(1000));
+    let mut wanted = Vec::from_slice(alloc, b"one\n|")?;
+    wanted.extend_from_slice(&large[..1000])?;
+    wanted.extend_from_slice(b"|")?;
+    assert!(rt; slow.kept.has(&wanted));
+    Ok(())
+}
+
+#[test]
+fn a_large_text_that_is_interrupted_again_and_again_is_a_fault(
+    rt: HostRuntime,
+) -> Result<(), Fail> {
+    let alloc = rt.alloc();
+    let large = vec![in alloc; b'x'; 4096]?;
+    let slow = Slow::new(alloc, 1000);
+    let mut sink = StdSink::new(alloc, &slow);
+    assert_eq!(rt; sink.put_lines(&large), Err(PutFault::Failed));
+    assert_eq!(rt; sink.put_lines(&large), Ok(1000));
     Ok(())
 }

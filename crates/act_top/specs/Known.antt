@@ -20,7 +20,7 @@ pub record IsRenewed (known : List Bool) (c : ℕ) (run : Stream) (before after 
   pub others : (d : ℕ) → d ≢ c → slice_get after d ≡ slice_get before d
   pub stay : slice_get known c ≡ Some true → after ≡ before
 
--- the lines that are kept of each contract with a run are of this run's rows, where they are of no two with other rows
+-- the lines that are kept of each contract with a run are of this run's rows, where runs of one contract have the same rows
 pub record AreRenewed (runs : List (ℕ × Stream)) (before after : List Lines) : Type 0 where
   pub count : length after ≡ length before
   pub each : (rows : ℕ → List Row) → All (λ (run : ℕ × Stream). run.1.rows ≡ rows run.0) runs

@@ -37,8 +37,8 @@ pub fn append(board: &mut Board, entry: Obs) -> Result<(), NoMemory>
     }
 }
 
-/// Of each contract whether nothing that its evaluation reads was appended since a version, so that its run is the same; of none
-/// where there is no version, or no memory to tell.
+/// For each contract, whether no entry since a version touches its cone, so that its run is the same; for none where there is no
+/// version, or no memory to tell.
 pub(crate) fn unread_since(alloc: Global, board: &mut Board, at: Option<u64>) -> Vec<bool>
     requires { IfSome at (λ version. version ≤ version_of board.old) }
     ensures runs { (c : ℕ) → slice_get result.items c ≡ Some true → IsSomeAnd at (λ version.

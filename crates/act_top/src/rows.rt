@@ -32,8 +32,8 @@ pub(crate) fn no_lines<'a>(
     Ok(kept)
 }
 
-/// Writes the lines of a contract's rows, and keeps them where there is a place for the contract. `known` is of each contract
-/// whether its lines are known to be those that are kept, here and in what calls it.
+/// Writes the lines of a contract's rows, and keeps them where there is a place for the contract. `known` tells of each contract
+/// whether the kept lines are known to be those of its rows, here and in what calls it; of one that it doesn't tell of they aren't.
 pub(crate) fn write_rows<K: Sink>(
     out: &mut K,
     names: &Names,
@@ -51,14 +51,14 @@ pub(crate) fn write_rows<K: Sink>(
 {
     let place = contract as usize;
     if place < kept.len() {
-        write_kept_rows(out, &mut kept[place], is_known(known, place), run)
+        write_kept_rows(out, &mut kept[place], are_known(known, place), run)
     } else {
         write_new_rows(out, names, &run.rows)
     }
 }
 
 /// Whether the lines of the contract at a place are known.
-fn is_known(known: &[bool], place: usize) -> bool
+fn are_known(known: &[bool], place: usize) -> bool
     ensures yes { result ≡ true → slice_get known.now place ≡ Some true }
     ensures no { slice_get known.now place ≡ Some true → result ≡ true }
 {

@@ -228,7 +228,7 @@ fn write_answer_list<K: Sink>(
 }
 
 /// Writes an answer, and answers whether each of its blocks ends in `end`. `kept` has the lines of rows that were written last,
-/// and `known` is of each contract whether these are known to be its lines here too, as below.
+/// and `known` tells of each contract whether these are known to be its lines here too.
 pub(crate) fn write_answer<K: Sink>(
     out: &mut K,
     line: &mut Vec<u8>,

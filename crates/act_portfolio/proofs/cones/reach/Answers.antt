@@ -1,4 +1,4 @@
-use Rattle.std.proofs.Common.{◌≡◌, ◌<◌, ◌++◌, ◌∷◌, [], length, get_or, take, slice_set, false, true, sym, ap, subst, ◌∙◌, arith}
+use Rattle.std.proofs.Common.{◌≡◌, ◌<◌, ◌++◌, ◌∷◌, [], length, get_or, slice_set, false, true, sym, ap, subst, ◌∙◌, arith}
 use Rattle.std.proofs.lemmas.List.{get_or_default, take_all}
 use Rattle.act_portfolio.specs.Cones.{HaveSame}
 use Rattle.act_portfolio.proofs.Reached.{reach-put, reach-skip, same-none, seen-mark, seen-put}

@@ -4,4 +4,4 @@ use Rattle.act_terms.proofs.contract.type_of_object.Goals as goal
 
 pub returns : goal.returns
 unfolding contract_type
-returns c = c.type_given.ensures ∙ ap type_given c.text_in.ensures
+returns c = c.type_given.ensures ∙ ap type_given c.text_within.ensures

@@ -1,5 +1,5 @@
 use Rattle.std.proofs.Common.{codes}
-use Rattle.act_json.specs.Listed.{object_of}
+use Rattle.act_json.specs.Tree.{object_of}
 use Rattle.act_terms.proofs.Given.{payment_above_zero}
 use Rattle.act_terms.proofs.redemption.read_lam_payment.Goals as goal
 

@@ -12,7 +12,7 @@ returns-then-place-kept-clause-renewed g c =
     let here : slice_get kept c.args.contract ≡ Some old = slice_get-get_or kept c.args.contract old c.if-place-kept.true ∙ ap (λ (lines : Lines). Some lines) (sym c.index-kept-place.is) in
     ok-then c.write_kept_rows.result _ _ c.write_kept_rows.ensures.rows (λ rows.
     renewed-set c.args.known.now c.args.contract (arc_value c.args.run.now) kept old c.write_kept_rows.new.lines c.if-place-kept.true here rows
-    (λ is. c.write_kept_rows.ensures.stays (c.is_known.ensures.no is) ∙ sym c.index-kept-place.is))
+    (λ is. c.write_kept_rows.ensures.stays (c.are_known.ensures.no is) ∙ sym c.index-kept-place.is))
 
 pub returns-else-place-kept-clause-renewed : goal.returns-else-place-kept-clause-renewed
 returns-else-place-kept-clause-renewed g c =

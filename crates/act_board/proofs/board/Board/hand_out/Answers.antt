@@ -65,12 +65,12 @@ cached_for-requires-clause-version c =
     let b = c.self.inside in
     let next = subst (λ (h : History). IsNext h c.args.contract c.args.version) (sym c.self.view_is) c.requires.next in
     let within = next-within _ _ b.items.items b.book b.callers.items b.pairs.items b.front b.owing b.given_up c.self.invariant.0 c.args.contract c.args.version next in
-    omega (arith, within.1, ap length c.self.invariant.0.entries)
+    omega (arith, within.1, ap length c.in_ok-seen.ensures.same, ap length c.self.invariant.0.entries)
 
 pub cached_for-requires-clause-latest : goal.cached_for-requires-clause-latest
 cached_for-requires-clause-latest c = λ one at.
     let is = c.self.invariant.1.results c.args.contract one (ap (λ (xs : List (Option Latest)). slice_get xs c.args.contract) (sym c.deref-4.ensures.value) ∙ at) in
-    omega (arith, is.0, ap length c.self.invariant.0.entries)
+    omega (arith, is.0, ap length c.in_ok-seen.ensures.same, ap length c.self.invariant.0.entries)
 
 pub new-task-requires-clause-contract : goal.new-task-requires-clause-contract
 new-task-requires-clause-contract c =
@@ -86,7 +86,7 @@ new-task-requires-clause-children c =
     let raw : History = record { portfolio = p; quotas = b.quotas.items; marks = b.marks.items } in
     let keeps : Keeps c.deref.result.now c.deref-2.result.now raw = (subst (ArePairs raw) (sym c.deref-2.ensures.value) c.self.invariant.0.pairs, sym c.deref.ensures) in
     let runs = c.in_ok-children.ensures.runs raw keeps in
-    let seen : take c.args.version (entries_of raw) ≡ c.in_ok-seen.seen = sym (c.in_ok-seen.ensures ∙ ap (λ (xs : List Obs). take c.args.version xs) c.self.invariant.0.entries) in (
+    let seen : take c.args.version (entries_of raw) ≡ c.in_ok-seen.seen = sym (c.in_ok-seen.ensures.seen ∙ ap (λ (xs : List Obs). take c.args.version xs) c.self.invariant.0.entries) in (
       runs.0
           ∙ (ap (λ (xs : List Obs). map (run_of p.contracts xs) (children_of c.deref.result.now.contracts.children c.args.contract)) seen
           ∙ (ap (λ (q : Accepted). map (run_of p.contracts c.in_ok-seen.seen) (children_of q.contracts.children c.args.contract)) c.deref.ensures
@@ -103,10 +103,10 @@ new-task-requires-clause-kept c =
     let within = next-within raw _ b.items.items b.book b.callers.items b.pairs.items b.front b.owing b.given_up c.self.invariant.0 c.args.contract c.args.version next in
     let there : c.args.contract < length b.latest.items = omega (arith, within.0, c.self.invariant.1.count) in
     let cached = c.in_ok-cached.cached in
-    let is = cached-told raw b.latest.items c.self.invariant.1 c.args.contract c.args.version there cached c.deref-3.result.now b.book c.deref-4.result.now c.deref-3.ensures c.self.invariant.0.entries c.deref-4.ensures.value c.in_ok-cached.ensures.cached in
+    let is = cached-told raw b.latest.items c.self.invariant.1 c.args.contract c.args.version there cached c.deref-3.result.now c.snapshot.new.self c.deref-4.result.now c.deref-3.ensures (c.in_ok-seen.ensures.same ∙ c.self.invariant.0.entries) c.deref-4.ensures.value c.in_ok-cached.ensures.cached in
     let linked = subst (λ (q : Accepted). IsLinked q.contracts) c.deref-3.ensures c.cached_for.ensures.linked in
     let depth = subst (λ (q : Accepted). IsWithinDepth deepest q.contracts c.args.contract) c.deref-3.ensures c.cached_for.ensures.within_depth in
-    let seen : take c.args.version (entries_of raw) ≡ c.in_ok-seen.seen = sym (c.in_ok-seen.ensures ∙ ap (λ (xs : List Obs). take c.args.version xs) c.self.invariant.0.entries) in
+    let seen : take c.args.version (entries_of raw) ≡ c.in_ok-seen.seen = sym (c.in_ok-seen.ensures.seen ∙ ap (λ (xs : List Obs). take c.args.version xs) c.self.invariant.0.entries) in
     subst (λ (q : Accepted). MayGoOn (run_of q.contracts c.in_ok-seen.seen c.args.contract) cached.run cached.cut) (sym c.deref-5.ensures)
     (subst (λ (xs : List Obs). MayGoOn (run_of p.contracts xs c.args.contract) cached.run cached.cut) seen
     (goes-on raw b.latest.items c.self.invariant.1 c.args.contract c.args.version there cached linked depth is))
@@ -138,7 +138,7 @@ invariant_of-self-2 c =
     ∙ ap (λ (d : ℕ). b.marks.items ++ mark.Claim d v ∷ []) (sym same))) in
     let marked-own = c.put_mark.ensures.added ∙ (ap (λ (ms : List Mark). ms ++ c.claim.result ∷ []) c.make_room.ensures.marks ∙ ap (λ (m : Mark). b.marks.items ++ m ∷ []) c.claim.ensures) in
     let room : length b.marks.items + (b.owing + 2) ≤ vec_capacity c.put_mark.new.marks = omega (arith, c.in_ok-make_room.ensures.room, ap length c.make_room.ensures.marks, c.put_mark.ensures.kept) in (
-      rw (c.cached_for.ensures.same, written_back b.pairs.len c.put_progress.new.pairs b.pairs.items (ap length put.is ∙ length-set b.pairs.items put.place (record { version = v; rank = r; progress = Claimed })) (sym c.deref_mut.ensures.len ∙ ap length c.deref_mut.ensures.value))
+      rw (c.cached_for.ensures.same, c.in_ok-seen.ensures.same, written_back b.pairs.len c.put_progress.new.pairs b.pairs.items (ap length put.is ∙ length-set b.pairs.items put.place (record { version = v; rank = r; progress = Claimed })) (sym c.deref_mut.ensures.len ∙ ap length c.deref_mut.ensures.value))
           (board-claimed raw _ b.items.items b.book b.callers.items b.pairs.items b.front b.owing b.given_up c.self.invariant.0 v r c.put_progress.new.pairs c.put_mark.new.marks.items (vec_capacity c.put_mark.new.marks) put
           (going, subst (λ (d : ℕ). IsNext raw d v) (sym same) next) (slice_get_within p.order r c.args.contract ranked) marked room),
       latest-quiet raw b.latest.items c.self.invariant.1 (mark.Claim c.args.contract v) c.put_mark.new.marks.items marked-own (λ d. refl) refl,
@@ -158,13 +158,13 @@ seen-length c =
     let b = c.self.inside in
     let next = subst (λ (h : History). IsNext h c.args.contract c.args.version) (sym c.self.view_is) c.requires.next in
     let within = next-within _ _ b.items.items b.book b.callers.items b.pairs.items b.front b.owing b.given_up c.self.invariant.0 c.args.contract c.args.version next in
-    ap length c.in_ok-seen.ensures ∙ length-take-le c.args.version b.book (omega (arith, within.1, ap length c.self.invariant.0.entries))
+    ap length c.in_ok-seen.ensures.seen ∙ length-take-le c.args.version b.book (omega (arith, within.1, ap length c.self.invariant.0.entries))
 
 pub returns-clause-work : goal.returns-clause-work
 returns-clause-work c =
     let b = c.self.inside in
     let task = c.new-task.ensures in
-    let seen : c.in_ok-seen.seen ≡ take (length c.in_ok-seen.seen) b.book = c.in_ok-seen.ensures ∙ ap (λ (n : ℕ). take n b.book) (sym (seen-length c)) in
+    let seen : c.in_ok-seen.seen ≡ take (length c.in_ok-seen.seen) b.book = c.in_ok-seen.ensures.seen ∙ ap (λ (n : ℕ). take n b.book) (sym (seen-length c)) in
     subst (λ (h : History). IsOf h c.new-task.result) c.self.view_is (subst (λ (w : Work). IsOf (record { portfolio = arc_value b.portfolio; quotas = b.quotas.items; marks = b.marks.items }) w) (sym task) (record {
       portfolio = c.deref-5.ensures;
       entries = seen ∙ ap (λ (xs : List Obs). take (length c.in_ok-seen.seen) xs) c.self.invariant.0.entries;
@@ -181,7 +181,7 @@ returns-clause-kept c =
     let within = next-within raw _ b.items.items b.book b.callers.items b.pairs.items b.front b.owing b.given_up c.self.invariant.0 c.args.contract c.args.version next in
     let there : c.args.contract < length b.latest.items = omega (arith, within.0, c.self.invariant.1.count) in
     let cached = c.in_ok-cached.cached in
-    let is = cached-told raw b.latest.items c.self.invariant.1 c.args.contract c.args.version there cached c.deref-3.result.now b.book c.deref-4.result.now c.deref-3.ensures c.self.invariant.0.entries c.deref-4.ensures.value c.in_ok-cached.ensures.cached in
+    let is = cached-told raw b.latest.items c.self.invariant.1 c.args.contract c.args.version there cached c.deref-3.result.now c.snapshot.new.self c.deref-4.result.now c.deref-3.ensures (c.in_ok-seen.ensures.same ∙ c.self.invariant.0.entries) c.deref-4.ensures.value c.in_ok-cached.ensures.cached in
     ap (λ (w : Work). w.kept) c.new-task.ensures
     ∙ (kept-told raw b.latest.items c.self.invariant.1 c.args.contract c.args.version there cached is ∙ ap (λ (h : History). kept_for h c.args.contract c.args.version) c.self.view_is)
 
@@ -193,6 +193,6 @@ returns-clause-cut c =
     let within = next-within raw _ b.items.items b.book b.callers.items b.pairs.items b.front b.owing b.given_up c.self.invariant.0 c.args.contract c.args.version next in
     let there : c.args.contract < length b.latest.items = omega (arith, within.0, c.self.invariant.1.count) in
     let cached = c.in_ok-cached.cached in
-    let is = cached-told raw b.latest.items c.self.invariant.1 c.args.contract c.args.version there cached c.deref-3.result.now b.book c.deref-4.result.now c.deref-3.ensures c.self.invariant.0.entries c.deref-4.ensures.value c.in_ok-cached.ensures.cached in
+    let is = cached-told raw b.latest.items c.self.invariant.1 c.args.contract c.args.version there cached c.deref-3.result.now c.snapshot.new.self c.deref-4.result.now c.deref-3.ensures (c.in_ok-seen.ensures.same ∙ c.self.invariant.0.entries) c.deref-4.ensures.value c.in_ok-cached.ensures.cached in
     ap (λ (w : Work). w.cut) c.new-task.ensures
     ∙ (cut-told raw b.latest.items c.self.invariant.1 c.args.contract c.args.version there cached is ∙ ap (λ (h : History). cut_for h c.args.contract c.args.version) c.self.view_is)

@@ -1,0 +1,36 @@
+use Rattle.std.proofs.Common.{map, refl, sym, subst, ◌∙◌}
+use Rattle.std.specs.Arc.{arc_value}
+use Rattle.act_model.specs.Run.{Stream}
+use Rattle.act_swap.specs.Children.{AreInDayOrder}
+use Rattle.act_run.proofs.Limited.{run_in_day_order, run_stopped}
+use Rattle.act_run.proofs.Resumed.{enough_events, none_first, resumed_run}
+use Rattle.act_run.proofs.run.run_of_events.Goals as goal
+
+pub events_behind-left-requires : goal.events_behind-left-requires
+events_behind-left-requires g c =
+    enough_events c.args.terms.now c.args.plan.now (g.O.Observed.entries c.args.seen.now) (map arc_value c.args.children.now) c.in-Ok.first c.in_ok-limit.limit c.args.events.now c.args.rows.now c.args.count
+    c.before_limit-before.result.now (sym c.start.ensures ∙ c.in-Ok.is) c.in_ok-limit.ensures c.requires.events c.requires.same c.requires.within c.before_limit-before.ensures
+
+pub returns-in_ok-run-in-Ok-clause-run : goal.returns-in_ok-run-in-Ok-clause-run
+returns-in_ok-run-in-Ok-clause-run g c =
+    c.closed_by.ensures ∙ resumed_run c.args.terms.now c.args.plan.now (g.O.Observed.entries c.args.seen.now) (map arc_value c.args.children.now) c.in-Ok.first c.in_ok-limit.limit c.args.events.now c.args.rows.now c.args.count
+    c.in_ok-kept-in-Ok.kept c.state_behind-state.result c.before_limit-before.result.now c.events_behind-left.result.now c.in_ok-run-in-Ok.run'
+    (sym c.start.ensures ∙ c.in-Ok.is) c.in_ok-limit.ensures c.requires.events c.requires.same c.requires.within c.in_ok-kept-in-Ok.ensures c.state_behind-state.ensures
+    c.before_limit-before.ensures c.events_behind-left.ensures c.in_ok-run-in-Ok.ensures.run
+
+pub returns-in_ok-run-in-Ok-clause-in_day_order : goal.returns-in_ok-run-in-Ok-clause-in_day_order
+returns-in_ok-run-in-Ok-clause-in_day_order g c =
+    let entries = g.O.Observed.entries c.args.seen.now in
+    let children = map arc_value c.args.children.now in
+    subst (λ (run : Stream). AreInDayOrder run.rows) (sym (returns-in_ok-run-in-Ok-clause-run g c)) (run_in_day_order c.args.terms.now c.args.plan.now entries children)
+
+pub returns-in-Err-clause-run : goal.returns-in-Err-clause-run
+returns-in-Err-clause-run g c =
+    c.stopped_at_once.ensures
+    ∙ run_stopped c.args.terms.now c.args.plan.now (g.O.Observed.entries c.args.seen.now) (map arc_value c.args.children.now) c.in-Err.stop (sym c.start.ensures ∙ c.in-Err.is)
+
+pub returns-in-Err-clause-ticked : goal.returns-in-Err-clause-ticked
+returns-in-Err-clause-ticked g c =
+    let none = none_first c.args.terms.now c.args.plan.now (g.O.Observed.entries c.args.seen.now) (map arc_value c.args.children.now) c.in-Err.stop c.args.rows.now c.args.count
+    (sym c.start.ensures ∙ c.in-Err.is) c.requires.same c.requires.within in
+    rw none (rw c.stopped_at_once.ensures refl)
