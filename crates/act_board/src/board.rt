@@ -5,6 +5,7 @@ use crate::caller::{
     open_ask, set_left, spend,
 };
 use crate::claiming::{are_ready, children_results, first_waiting, results_of};
+use crate::cuts::cuts_between;
 use crate::dropping::drop_runs;
 use crate::latest::{Latest, cached_for, codes_read, none_yet, put_latest};
 use crate::mark::Mark;
@@ -13,10 +14,10 @@ use crate::pair::{Pair, Progress, is_claimed, put_progress};
 use crate::ready::{Ready, fill, make_room_for_pairs, nothing_ready, settle};
 use crate::refer::parents_of;
 use crate::room::{append_entry, make_room, make_room_for_step, put_ask, put_entry, put_mark};
-use crate::unread::unread_since;
 use crate::wanting::{numbers, want_all};
 use crate::work::{Done, Task};
 use act_cut::IndexedBook;
+use act_date::Day;
 use act_model::{Answer, Asked, Item, MOST_ENTRIES, Obs};
 use act_num::NoMemory;
 use act_portfolio::Portfolio;
@@ -72,7 +73,7 @@ impl Model for Board {
 }
 
 impl Board {
-    ghost use Rattle.std.specs.Prelude.{ℕ, Bool, ◌≡◌, ◌↔◌, ◌⊎◌, ◌<◌, ◌≤◌, [], true, false, not, Some, Err, is_some, length, sum, take, IfErr, IfOk};
+    ghost use Rattle.std.specs.Prelude.{ℕ, ℤ, ◌≡◌, ◌↔◌, ◌⊎◌, ◌<◌, ◌≤◌, [], true, false, Option, Some, Err, length, max, min, sum, take, IfErr, IfOk};
     ghost use Rattle.std.specs.Arc.{arc_value};
     ghost use Rattle.std.specs.List.{slice_get};
     ghost use Rattle.act_model.specs.Journal.{is_known};
@@ -80,6 +81,7 @@ impl Board {
     ghost use Rattle.act_model.specs.declared.journal.Step.TheVariants as step;
     ghost use Rattle.act_board.specs.Calls.{Claims, Collects, IsOf, after_finish, after_give_up};
     ghost use Rattle.act_board.specs.History.{IsPresent, and_then, asks_by, entries_of, is_given_up, journal_of, open_asks, version_of};
+    ghost use Rattle.act_profile.specs.Kept.{kept_of};
     ghost use Rattle.act_profile.specs.Reads.{cut_of};
     ghost use Rattle.act_profile.specs.Run.{run_of};
     ghost use Rattle.act_board.specs.Latest.{cut_for, kept_for};
@@ -145,20 +147,21 @@ impl Board {
         self.book.len()
     }
 
-    /// For each contract, whether none of the entries behind the first ones, so many, touches its cone; its run over the first
-    /// ones is then that over all.
-    pub fn unread_since(&mut self, version: u64) -> Result<Vec<bool>, NoMemory>
-        requires { version ≤ version_of self.old }
-        ensures count { IfOk result (λ unread. length unread.items ≡ length self.old.portfolio.contracts.terms) }
-        ensures each { IfOk result (λ unread. (c : ℕ) (one : Bool) → slice_get unread.items c ≡ Some one
-            → is_some (cut_of self.old.portfolio.contracts c (entries_of self.old) version (version_of self.old)) ≡ not one) }
-        ensures runs { IfOk result (λ unread. (c : ℕ) → slice_get unread.items c ≡ Some true
-            → run_of self.old.portfolio.contracts (take version (entries_of self.old)) c
-            ≡ run_of self.old.portfolio.contracts (entries_of self.old) c) }
+    /// For each contract, the day from which on the entries between two versions of the book, in either order, touch its cone; None
+    /// where none of them does. Of its runs at both the same is kept under it.
+    pub fn cuts_between(&mut self, one: u64, other: u64) -> Result<Vec<Option<Day>>, NoMemory>
+        requires one { one ≤ version_of self.old }
+        requires other { other ≤ version_of self.old }
+        ensures count { IfOk result (λ cuts. length cuts.items ≡ length self.old.portfolio.contracts.terms) }
+        ensures each { IfOk result (λ cuts. (c : ℕ) (cut : Option ℤ) → slice_get cuts.items c ≡ Some cut
+            → cut ≡ cut_of self.old.portfolio.contracts c (entries_of self.old) (min one other) (max one other)) }
+        ensures kept { IfOk result (λ cuts. (c : ℕ) (cut : Option ℤ) → slice_get cuts.items c ≡ Some cut
+            → kept_of (run_of self.old.portfolio.contracts (take one (entries_of self.old)) c) cut
+            ≡ kept_of (run_of self.old.portfolio.contracts (take other (entries_of self.old)) c) cut) }
         ensures unchanged { self.new ≡ self.old }
     {
         let alloc = *self.items.allocator();
-        unread_since(alloc, &self.portfolio, &mut self.book, version)
+        cuts_between(alloc, &self.portfolio, &mut self.book, one, other)
     }
 
     /// How many asks of a caller are open.

@@ -171,7 +171,7 @@ fn cut_between(
 }
 
 /// The same cut: a day that can be.
-fn in_range(cut: Option<Day>) -> Option<Day>
+pub(crate) fn in_range(cut: Option<Day>) -> Option<Day>
     ensures same { result ≡ cut }
     ensures in_range { IfSome result (λ day. day ≤ℤ last_day) }
 {

@@ -6,6 +6,7 @@ mod below;
 mod board;
 mod caller;
 mod claiming;
+mod cuts;
 mod dropping;
 mod history;
 mod latest;
@@ -15,7 +16,6 @@ mod pair;
 mod ready;
 mod refer;
 mod room;
-mod unread;
 mod wanting;
 mod work;
 

@@ -1,5 +1,5 @@
 -- The names of a tree's object, in byte order and each once, from its members as they stand.
-use Rattle.std.proofs.Common.{◌≡◌, ℕ, Bool, true, false, cond, List, [], ◌∷◌, Ordering, Less, Equal, Greater, is_eq, refl, sym, ap, ◌∙◌}
+use Rattle.std.proofs.Common.{◌≡◌, ℕ, Bool, true, false, cond, if◌then◌else◌, List, [], ◌∷◌, Ordering, Less, Equal, Greater, is_eq, refl, sym, ap, ◌∙◌}
 use Rattle.std.proofs.lemmas.Cmp.{nat_list_cmp_total}
 use Rattle.std.proofs.lemmas.Map.Text.{is_eq-slice_cmp}
 use Rattle.std.proofs.lemmas.Slice.Eq.{bytes_eq-Decides}
@@ -9,7 +9,21 @@ use Rattle.std.specs.Cmp.Lexicographic.{slice_cmp}
 use Rattle.std.specs.Ordering.{nat_cmp, match_ordering, ordering_reverse}
 use Rattle.json.specs.Json as json
 use Rattle.serde_json.specs.Data.{Data, Members, no_members, member, put}
-use Rattle.act_json.specs.Tree.{data_of, put_members, with_name, with_names}
+use Rattle.act_json.specs.Tree.{data_of, put_members}
+
+-- ---- names in byte order
+
+-- names in byte order, each once, with one more
+abbrev pub with_name : List ℕ → List (List ℕ) → List (List ℕ)
+with_name name [] = name ∷ []
+with_name name (first ∷ names) =
+    match_ordering (slice_cmp nat_cmp name first) (name ∷ first ∷ names) (first ∷ names) (first ∷ with_name name names)
+
+-- such names with those of members that pass a test, one after another
+abbrev pub with_names : (List ℕ → Bool) → json.Members → List (List ℕ) → List (List ℕ)
+with_names test json.no_members names = names
+with_names test (json.member name value members) names =
+    with_names test members (if test name then with_name name names else names)
 
 -- ---- members in byte order
 

@@ -1,9 +1,7 @@
 -- The data of a JSON tree over borrowed text, as serde_json reads it.
-use Rattle.std.specs.Prelude.{ℕ, ◌||◌, Bool, true, false, if◌then◌else◌, List, [], ◌∷◌, Option, None, Result, option_and_then}
+use Rattle.std.specs.Prelude.{ℕ, ◌||◌, Bool, true, false, if◌then◌else◌, List, Option, None, Result, option_and_then}
 use Rattle.std.specs.Borrow.{Bor}
 use Rattle.std.specs.Option.{ok_or, unwrap_or}
-use Rattle.std.specs.Ordering.{nat_cmp, match_ordering}
-use Rattle.std.specs.Cmp.Lexicographic.{slice_cmp}
 use Rattle.std.specs.Str.{is_utf8}
 use Rattle.std.specs.declared.alloc.Global.{Global}
 use Rattle.json.specs.Json as json
@@ -77,15 +75,3 @@ tree_of text = option_and_then (λ p. json.if_last p.0 p.1) (json.value max_dept
 -- the JSON value that bytes are read as where they stand, with no number put in quotes, or NotJson
 abbrev pub json_as_is : List ℕ → Result Data JsonFault
 json_as_is bytes = ok_or (if is_utf8 bytes then read bytes else None) NotJson
-
--- names in byte order, each once, with one more
-abbrev pub with_name : List ℕ → List (List ℕ) → List (List ℕ)
-with_name name [] = name ∷ []
-with_name name (first ∷ names) =
-    match_ordering (slice_cmp nat_cmp name first) (name ∷ first ∷ names) (first ∷ names) (first ∷ with_name name names)
-
--- such names with those of members that pass a test, one after another
-abbrev pub with_names : (List ℕ → Bool) → json.Members → List (List ℕ) → List (List ℕ)
-with_names test json.no_members names = names
-with_names test (json.member name value members) names =
-    with_names test members (if test name then with_name name names else names)

@@ -31,7 +31,7 @@ pub fn text(alloc: Global, value: &Value, name: &str) -> Result<Option<String>, 
 
 /// The text of the field of that name, where it stands in the value; None and WrongShape as in [`text`]. It takes no memory.
 #[tactic(auto, unfolding(crate::specs::Fields::field_of))]
-pub fn text_in<'a>(value: &'a Value, name: &str) -> Result<Option<&'a str>, JsonFault>
+fn text_in<'a>(value: &'a Value, name: &str) -> Result<Option<&'a str>, JsonFault>
     ensures { result_map (option_map (λ text. text.now)) result ≡ field_of name.now (view value.now) }
 {
     if !value.is_object() {
@@ -41,7 +41,7 @@ pub fn text_in<'a>(value: &'a Value, name: &str) -> Result<Option<&'a str>, Json
 }
 
 /// The text that a member gives, where it is there.
-pub(crate) fn text_given(member: Option<&Value>) -> Result<Option<&str>, JsonFault>
+fn text_given(member: Option<&Value>) -> Result<Option<&str>, JsonFault>
     ensures { result_map (option_map (λ text. text.now)) result ≡ member_text (option_map (λ value. view value.now) member.entry) }
 {
     match member {

@@ -9,7 +9,7 @@ mod reading;
 mod tree;
 
 pub use fault::JsonFault;
-pub use fields::{cycle, day, decimal, period, required, text, text_in, word};
+pub use fields::{cycle, day, decimal, period, required, text, word};
 pub use quoting::{is_quoted, quote};
 pub use reading::read;
 pub use tree::{Object, items_of, member, read_tree, text_within};

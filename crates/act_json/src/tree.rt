@@ -123,7 +123,7 @@ pub fn member<'v, 'a>(value: &'v Value<'a>, name: &str) -> Option<&'v Value<'a>>
     }
 }
 
-/// The text of the field of that name, as [`text_in`](crate::text_in) has it of the value.
+/// The text of the field of that name, as [`text`](crate::text) has it of a value of `serde_json`.
 pub fn text_within<'a>(value: &Value<'a>, name: &str) -> Result<Option<&'a str>, JsonFault>
     ensures { result_map (option_map (λ text. text.now)) result ≡ field_of name.now (data_in value.now) }
 {
@@ -146,7 +146,7 @@ impl<'v, 'a> Object<'v, 'a> {
         }
     }
 
-    /// The members as they stand in the text; a name that is given twice stands twice among them.
+    /// The members. Of those of one name the last counts.
     pub fn members(&self) -> &'v [(&'a str, Value<'a>)]
         ensures { object_in result.now ≡ object_of self.now }
     {
@@ -168,7 +168,7 @@ impl<'v, 'a> Object<'v, 'a> {
         None
     }
 
-    /// The text of the field of that name, as [`text_in`](crate::text_in) has it of the object.
+    /// The text of the field of that name, as [`text`](crate::text) has it of the object.
     #[tactic(auto, unfolding(crate::specs::Fields::field_of))]
     pub fn text(&self, name: &str) -> Result<Option<&'a str>, JsonFault>
         ensures { result_map (option_map (λ text. text.now)) result ≡ field_of name.now (object_of self.now) }

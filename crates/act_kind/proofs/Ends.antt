@@ -32,7 +32,7 @@ by_type true CE b is = is
 by_type true XD b is = is
 by_type true STD b is = is
 
-ending : (kind : Kind) (event : Event) → ends kind event ≡ true → may_end event ≡ true
+pub ending : (kind : Kind) (event : Event) → ends kind event ≡ true → may_end event ≡ true
 ending kind event is = by_type (is_own event.source) event.kind (ends_at_maturity kind) is
 
 both : (a b : Bool) → (a && b) ≡ true → a ≡ true

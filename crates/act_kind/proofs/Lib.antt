@@ -7,3 +7,4 @@ pub mod StableOrder
 pub mod TypesInTurn
 pub mod UpToEnd
 pub mod WithoutEnd
+pub mod PlannedEnd

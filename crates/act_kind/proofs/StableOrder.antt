@@ -18,7 +18,7 @@ Ascends lt [] = Unit {0}
 Ascends lt (x ∷ xs) = NoneBefore lt x xs × Ascends lt xs
 
 module _ {X : Type 0} (lt : X → X → Bool) (order : IsStrictWeakOrder lt) where
-  no_self : (x : X) → lt x x ≡ false
+  pub no_self : (x : X) → lt x x ≡ false
   no_self x = elim (cases_Bool (lt x x)) [ inl holds ↦ order.one_way x x holds | inr fails ↦ fails ]
 
   ties_self : (x : X) → ties lt x x ≡ true

@@ -1,6 +1,6 @@
 //! The order of events, and which of them count.
 ghost use Rattle.std.specs.Prelude.{◌≡◌, ◌≤◌, ◌&&◌, not, List, false, length, take, IfOk, IfErr};
-ghost use Rattle.std.specs.List.{AllPairs, filter, list_any, prefix_len};
+ghost use Rattle.std.specs.List.{AllPairs, filter, find, list_any, prefix_len};
 ghost use Rattle.std.specs.List.Sorted.{IsPermutation, IsStableBy};
 ghost use Rattle.std.specs.Ordering.{is_lt};
 ghost use Rattle.act_model.specs.declared.event.Event.{Event};
@@ -101,13 +101,40 @@ pub fn retain_counting(terms: &Terms, mut events: Vec<Event>) -> Vec<Event>
     events
 }
 
-/// Of events in order those that count, as a part of the list itself: what [`retain_counting`] keeps.
-pub fn counting<'a>(terms: &Terms, events: &'a [Event]) -> &'a [Event]
-    requires { in_order events.now ≡ events.now }
-    ensures { result.now ≡ counting terms.now.common.status_date terms.now.kind events.now }
+/// Of the events of a plan in order those that count, as a part of the list itself: what [`retain_counting`] keeps.
+pub fn counting<'a>(terms: &Terms, plan: &'a Plan) -> &'a [Event]
+    requires { in_order plan.now.events ≡ plan.now.events }
+    ensures { result.now ≡ counting terms.now.common.status_date terms.now.kind plan.now.events }
 {
-    let until_end = &events[..count_to_end(&terms.kind, events)];
+    let until_end = &plan.events[..count_to_planned_end(&terms.kind, plan)];
     &until_end[count_early(terms.common.status_date, &terms.kind, until_end)..]
+}
+
+/// How many events of a plan in order there are up to the first that ends the contract. What comes before it isn't looked at.
+fn count_to_planned_end(kind: &Kind, plan: &Plan) -> usize
+    requires { in_order plan.now.events ≡ plan.now.events }
+    ensures taken { take result plan.now.events ≡ up_to_end kind.now plan.now.events }
+    ensures within { result ≤ length plan.now.events }
+{
+    match first_end(kind, plan.ends()) {
+        Some(end) => {
+            let before = plan.events.partition_point(|event| precedes(event, &end));
+            before + count_to_end(kind, &plan.events[before..])
+        }
+        None => plan.events.len(),
+    }
+}
+
+/// The first of some events that ends the contract.
+fn first_end(kind: &Kind, events: &[Event]) -> Option<Event>
+    ensures { result ≡ find (ends kind.now) events.now }
+{
+    for event in events {
+        if ends(kind, event) {
+            return Some(*event);
+        }
+    }
+    None
 }
 
 /// How many events stand before the first whose day counts.

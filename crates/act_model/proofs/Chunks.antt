@@ -1,7 +1,7 @@
 -- The rows of a run in chunks.
 use Rattle.std.proofs.Common.{◌≡◌, ℕ, zero, suc, ◌+◌, ◌-◌, ◌*◌, ◌/◌, ◌<◌, ◌≤◌, min, List, [], ◌∷◌, ◌++◌, length, map, take, drop, slice_get, ◌⊎◌, inl, inr, refl, sym, ap, ap₂, ◌∙◌, arith}
-use Rattle.std.proofs.Math.Seq.{drop-append-add, take-append-add}
-use Rattle.std.proofs.lemmas.List.{append-nil, append_assoc, length-append, length-take-le, map-append, take-append-drop, take-append-le}
+use Rattle.std.proofs.Math.Seq.{drop-append-add, drop-append_seam, take-append-add}
+use Rattle.std.proofs.lemmas.List.{append-nil, append_assoc, length-append, length-map, length-take-le, map-append, take-append-drop, take-append-le, take-map, take-take}
 use Rattle.std.proofs.lemmas.List.Elements.{All-head, All-tail}
 use Rattle.std.specs.List.{All}
 use Rattle.act_model.proofs.Lists.{get_back, get_front, take_parts}
@@ -142,3 +142,21 @@ alike_on full full' last last' n k j on on' next before =
     ap (map cells_of) on ∙ map-append cells_of (take n rows) (take j (next_rows (slice_get full k) last))
     ∙ ap₂ (λ (a b : List Cells). a ++ b) before next
     ∙ sym (ap (map cells_of) on' ∙ map-append cells_of (take n rows') (take j (next_rows (slice_get full' k) last')))
+
+-- rows that are printed alike, and fewer of them
+pub alike_front : (rows rows' : List Row) (n m : ℕ) → n ≤ m → map cells_of (take m rows) ≡ map cells_of (take m rows') → map cells_of (take n rows) ≡ map cells_of (take n rows')
+alike_front rows rows' n m fewer alike =
+    ap (map cells_of) (sym (take-take n m rows fewer)) ∙ sym (take-map cells_of n (take m rows)) ∙ ap (take n) alike ∙ take-map cells_of n (take m rows') ∙ ap (map cells_of) (take-take n m rows' fewer)
+
+-- and those of them in one chunk
+pub alike_back : (rows rows' next next' : List Row) (n m o : ℕ) → m ≡ n + o → n ≤ length rows → n ≤ length rows' → take (n + o) rows ≡ take n rows ++ take o next → take (n + o) rows' ≡ take n rows' ++ take o next'
+    → map cells_of (take m rows) ≡ map cells_of (take m rows') → map cells_of (take o next) ≡ map cells_of (take o next')
+alike_back rows rows' next next' n m o is within within' on on' alike =
+    let front = map cells_of (take n rows) in
+    let front' = map cells_of (take n rows') in
+    let long : length front ≡ n = length-map (take n rows) cells_of ∙ length-take-le n rows within in
+    let long' : length front' ≡ n = length-map (take n rows') cells_of ∙ length-take-le n rows' within' in
+    let whole : front ++ map cells_of (take o next) ≡ front' ++ map cells_of (take o next') =
+    sym (map-append cells_of (take n rows) (take o next)) ∙ ap (map cells_of) (sym on) ∙ ap (λ k. map cells_of (take k rows)) (sym is) ∙ alike ∙ ap (λ k. map cells_of (take k rows')) is ∙ ap (map cells_of) on'
+    ∙ map-append cells_of (take n rows') (take o next') in
+    sym (drop-append_seam front (map cells_of (take o next))) ∙ ap₂ (λ k (cells : List Cells). drop k cells) (long ∙ sym long') whole ∙ drop-append_seam front' (map cells_of (take o next'))

@@ -89,10 +89,13 @@ impl Chunk {
         self.shared.row(&self.rows[place])
     }
 
-    /// How many rows at the beginning of both, up to so many, are found to be printed alike.
-    pub(crate) fn count_alike(&self, other: &Chunk, most: usize) -> usize
+    /// How many rows at the beginning of both, up to so many, are found to be printed alike, where those before a place are.
+    pub(crate) fn count_alike(&self, other: &Chunk, from: usize, most: usize) -> usize
+        requires from { from ≤ most }
         requires here { most ≤ length self.now }
         requires there { most ≤ length other.now }
+        requires before { HaveSameCells (take from self.now) (take from other.now) }
+        ensures from { from ≤ result }
         ensures most { result ≤ most }
         ensures alike { HaveSameCells (take result self.now) (take result other.now) }
     {
@@ -101,20 +104,30 @@ impl Chunk {
             &self.shared,
             &other.rows[..most],
             &other.shared,
+            from,
         )
     }
 }
 
-/// How many rows at the beginning of two lists of as many are found to be printed alike. What those of each share stands beside
-/// them.
-fn count_alike(one: &[Slim], shared: &Shared, other: &[Slim], other_shared: &Shared) -> usize
+/// How many rows at the beginning of two lists of as many are found to be printed alike, where those before a place are. What
+/// those of each share stands beside them.
+fn count_alike(
+    one: &[Slim],
+    shared: &Shared,
+    other: &[Slim],
+    other_shared: &Shared,
+    from: usize,
+) -> usize
     requires count { length one.now ≡ length other.now }
     requires here { All (HasParts shared.now) one.now }
     requires there { All (HasParts other_shared.now) other.now }
+    requires from { from ≤ length one.now }
+    requires before { HaveSameCells (map (full_row shared.now) (take from one.now)) (map (full_row other_shared.now) (take from other.now)) }
+    ensures from { from ≤ result }
     ensures most { result ≤ length one.now }
     ensures alike { HaveSameCells (map (full_row shared.now) (take result one.now)) (map (full_row other_shared.now) (take result other.now)) }
 {
-    for place in 0..one.len() {
+    for place in from..one.len() {
         if !are_alike(&one[place], shared, &other[place], other_shared) {
             return place;
         }

@@ -102,40 +102,49 @@ impl Rows {
         behind(&self.full, &self.last, chunks).row(place - chunks * CHUNK)
     }
 
-    /// How many rows at the beginning of these and of others, up to so many, are found to be printed alike.
-    pub fn count_alike(&self, other: &Rows, most: usize) -> usize
+    /// How many rows at the beginning of these and of others, up to so many, are found to be printed alike, where those before a
+    /// place are.
+    pub fn count_alike(&self, other: &Rows, from: usize, most: usize) -> usize
+        requires here { from ≤ length self.now }
+        requires there { from ≤ length other.now }
+        requires most { from ≤ most }
+        requires before { HaveSameCells (take from self.now) (take from other.now) }
+        ensures from { from ≤ result }
         ensures most { result ≤ most }
         ensures here { result ≤ length self.now }
         ensures there { result ≤ length other.now }
         ensures alike { HaveSameCells (take result self.now) (take result other.now) }
     {
         let limit = most.min(self.count()).min(other.count());
-        let mut alike = 0;
+        let mut alike = from;
         while alike < limit {
-            let found = self.alike_from(other, alike, limit);
-            alike += found;
-            if found < CHUNK {
+            let end = alike + (CHUNK - alike % CHUNK).min(limit - alike);
+            alike = self.alike_until(other, alike, end);
+            if alike < end {
                 break;
             }
         }
         alike
     }
 
-    /// How many rows of the chunk that begins at a place, up to those before `end`, are found to be printed alike.
+    /// How many rows at the beginning, up to so many, are found to be printed alike, where those before a place are and the two
+    /// places are in one chunk.
     #[inline(always)]
-    fn alike_from(&self, other: &Rows, begin: usize, end: usize) -> usize
-        requires whole { begin ≡ 64 * (begin / 64) }
-        requires some { begin < end }
+    fn alike_until(&self, other: &Rows, from: usize, end: usize) -> usize
+        requires some { from < end }
+        requires chunk { end ≤ 64 * (from / 64) + 64 }
         requires here { end ≤ length self.now }
         requires there { end ≤ length other.now }
-        ensures few { result ≤ min 64 (end - begin) }
-        ensures alike { HaveSameCells (take begin self.now) (take begin other.now)
-            → HaveSameCells (take (begin + result) self.now) (take (begin + result) other.now) }
+        requires before { HaveSameCells (take from self.now) (take from other.now) }
+        ensures from { from ≤ result }
+        ensures end { result ≤ end }
+        ensures alike { HaveSameCells (take result self.now) (take result other.now) }
     {
-        let chunks = begin / CHUNK;
+        let chunks = from / CHUNK;
         let here = behind(&self.full, &self.last, chunks);
         let there = behind(&other.full, &other.last, chunks);
-        here.count_alike(there, CHUNK.min(end - begin))
+        let begin = chunks * CHUNK;
+        begin + here.count_alike(there, from - begin, end - begin)
     }
 }
 

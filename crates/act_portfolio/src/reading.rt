@@ -57,7 +57,6 @@ pub(crate) fn read_portfolio(alloc: Global, bytes: &[u8]) -> Result<Portfolio, P
 
 /// The contracts of a file, read and checked.
 fn read_checked(alloc: Global, bytes: &[u8]) -> Result<Checked, PortfolioFault>
-    requires size { length bytes.now ≤ MOST_BYTES }
     ensures checked { IfOk result (λ checked. IsMadeOf (portfolio_of bytes.now) checked) }
     ensures refused { IfErr result (λ fault. IfSome (refusal_of fault) (λ refusal. portfolio_of bytes.now ≡ Err refusal)) }
 {

@@ -1,12 +1,13 @@
 -- Contracts are marked that are on no cycle.
-use Rattle.std.proofs.Common.{◌≡◌, ℕ, ◌<◌, ◌≤◌, Bool, true, false, List, [], ◌∷◌, ◌++◌, length, get_or, set, replicate, inl, inr, sym, ◌∙◌, arith}
+use Rattle.std.proofs.Common.{◌≡◌, ℕ, suc, ◌<◌, ◌≤◌, Bool, true, false, List, [], ◌∷◌, ◌++◌, length, get_or, set, replicate, inl, inr, sym, ◌∙◌, arith}
 use Rattle.std.proofs.lemmas.Bool.{cases_eq, cases_lt, false≢true}
 use Rattle.std.proofs.lemmas.List.{get_or-replicate, get_or-set_other, get_or-set_same, get_or_default, get_or_past, length-replicate, length-set}
 use Rattle.std.proofs.lemmas.List.Elements.{All-push}
 use Rattle.std.specs.Prelude.{Vec}
 use Rattle.act_refs.specs.Path.{IsChild, OnCycle, child_lists, children_of}
-use Rattle.act_refs.specs.Peeled.{IsPeeling}
-use Rattle.act_refs.proofs.Paths.{length-child_lists, no_cycle-parent}
+use Rattle.act_refs.specs.Peeled.{ArePeeled, IsPeeling}
+use Rattle.act_refs.specs.Turned.{IsTurned}
+use Rattle.act_refs.proofs.Paths.{HasPath-turned, length-child_lists, no_cycle-parent}
 
 abbrev nothing : ℕ
 nothing = 0
@@ -91,3 +92,17 @@ module _ (graph : List (List ℕ)) (next : List ℕ) (peeled : List Bool) (queue
   looked_at all =
       peeling_more graph (set next contract place) peeled queue looked_on contract exists
       (rw (get_or-set_same next contract place 0 (omega (arith, before.next_count)), ← is) all)
+
+-- ---- both ways
+
+-- a contract that is marked where references are turned around is on no cycle
+pub marked_turned : (graph turned : List (List ℕ)) (marks : List Bool) (contract : ℕ) → IsTurned graph turned → ArePeeled turned marks → get_or marks contract false ≡ true → ¬ (OnCycle graph contract)
+marked_turned graph turned marks contract turn are marked = λ cycle.
+    are contract marked (cycle.0, HasPath-turned graph turned turn (suc cycle.0) contract contract cycle.1)
+
+-- one more that is on none is marked
+pub marked_more : (graph : List (List ℕ)) (marks : List Bool) (contract : ℕ) → ArePeeled graph marks → ¬ (OnCycle graph contract) → ArePeeled graph (set marks contract true)
+marked_more graph marks contract are none = λ c now. elim (cases_eq c contract) [
+  | inl same ↦ rw same none
+  | inr other ↦ are c (sym (get_or-set_other marks contract c true false other) ∙ now)
+]

@@ -8,7 +8,7 @@ ghost use Rattle.act_refs.specs.Turned.{IsTurned};
 
 use crate::distance::{distances_from, nearest};
 use crate::graph::{children_at, parents_of};
-use crate::peel::peeled;
+use crate::peel::peeled_both_ways;
 use std::alloc::{AllocError, Global};
 
 /// The cycle from the least contract that is on one always to the first child from which the fewest references lead
@@ -20,7 +20,7 @@ pub fn reported_cycle(alloc: Global, children: &[Vec<u32>]) -> Result<Option<Vec
         (λ cycle. IsReportedCycle (child_lists children.now) cycle.items)) }
 {
     let parents = parents_of(alloc, children)?;
-    let peeled = peeled(alloc, children, &parents)?;
+    let peeled = peeled_both_ways(alloc, children, &parents)?;
     'contracts: for contract in 0..children.len() {
         if !peeled[contract] {
             let found = cycle_at(alloc, children, &parents, contract as u32)?;

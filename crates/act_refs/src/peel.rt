@@ -3,14 +3,41 @@ ghost use Rattle.std.specs.Prelude.{◌≡◌, ℕ, ◌^◌, ◌<◌, ◌≤◌,
 ghost use Rattle.std.specs.List.{All};
 ghost use Rattle.act_refs.specs.Path.{child_lists};
 ghost use Rattle.act_refs.specs.Peeled.{ArePeeled, IsPeeling};
+ghost use Rattle.act_refs.specs.Turned.{IsTurned};
 
 use crate::graph::children_at;
 use std::alloc::{AllocError, Global};
 
+/// Which contracts are on no cycle, as far as that follows from their children being on none, or from those that
+/// refer to them being on none. In the end it leaves out only those that lie between cycles. It takes time in
+/// proportion to the contracts and references.
+pub fn peeled_both_ways(
+    alloc: Global,
+    children: &[Vec<u32>],
+    parents: &[Vec<u32>],
+) -> Result<Vec<bool>, AllocError>
+    requires children_exist { All (λ list. All (λ child. child < length children.now) list.items) children.now }
+    requires parents_exist { All (λ list. All (λ parent. parent < length parents.now) list.items) parents.now }
+    requires parents_count { length parents.now ≡ length children.now }
+    requires turned { IsTurned (child_lists children.now) (child_lists parents.now) }
+    requires numbered { length children.now < 2 ^ 32 }
+    ensures count { IfOk result (λ peeled. length peeled.items ≡ length children.now) }
+    ensures peeled { IfOk result (λ peeled. ArePeeled (child_lists children.now) peeled.items) }
+{
+    let mut lead_nowhere = peeled(alloc, children, parents)?;
+    let led_from_nowhere = peeled(alloc, parents, children)?;
+    'contracts: for contract in 0..children.len() {
+        if led_from_nowhere[contract] {
+            lead_nowhere[contract] = true;
+        }
+    }
+    Ok(lead_nowhere)
+}
+
 /// Which contracts are on no cycle, as far as that follows from their children being on none. In the end it leaves
 /// out only those that lead to a cycle. It takes time in proportion to the contracts and references.
 #[tactic(auto, using(crate::proofs::Peeling::peeling_start))]
-pub fn peeled(
+fn peeled(
     alloc: Global,
     children: &[Vec<u32>],
     parents: &[Vec<u32>],

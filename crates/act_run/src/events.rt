@@ -31,7 +31,7 @@ pub(crate) fn planned_events<'a>(terms: &Terms, plan: &'a Plan, own: &[Obs]) -> 
         → own.now ≡ observed_events entries (observed_as terms.now.common) → events.now ≡ events_of terms.now plan.now entries children) }
 {
     if own.is_empty() && is_planned(&terms.kind) {
-        Some(counting(terms, &plan.events))
+        Some(counting(terms, plan))
     } else {
         None
     }

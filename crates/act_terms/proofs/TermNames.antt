@@ -1,14 +1,12 @@
 -- Names among those of terms.
-use Rattle.std.proofs.Common.{◌≡◌, ℕ, nat_eq, length, Bool, false, ◌||◌, ◌⊎◌, inl, inr, List, [], ◌∷◌, ◌++◌, map, not, Some, refl, ap, ◌∙◌}
+use Rattle.std.proofs.Common.{◌≡◌, ℕ, nat_eq, length, Bool, false, ◌||◌, ◌⊎◌, inl, inr, List, [], ◌∷◌, ◌++◌, map, refl, ap, ◌∙◌}
 use Rattle.std.proofs.lemmas.List.Folds.{list_any-append}
-use Rattle.std.specs.List.{filter, list_any}
+use Rattle.std.specs.List.{list_any}
 use Rattle.std.specs.Str.{bytes_eq}
 use Rattle.act_model.specs.declared.choice.ContractType.{ContractType}
 use Rattle.act_model.specs.declared.choice.ContractType.TheVariants as type
-use Rattle.serde_json.specs.Data.{Data, object, Members}
-use Rattle.serde_json.specs.Find.{as_object}
 use Rattle.act_json.proofs.Trees.{lengths_differ}
-use Rattle.act_terms.specs.Used.{common_terms, is_among, is_term_of, loan_terms, member_names, own_terms, redemption_terms, settlement_terms, shared_terms, trade_terms, unused_names}
+use Rattle.act_terms.specs.Used.{common_terms, is_among, is_term_of, loan_terms, own_terms, redemption_terms, settlement_terms, shared_terms, trade_terms}
 
 -- names of different lengths are different
 pub other_length : (first second : List ℕ) → nat_eq (length first) (length second) ≡ false → bytes_eq first second ≡ false
@@ -48,10 +46,3 @@ own_of type (inr (inr is)) = ap own_terms is
 
 pub own_is : (type : ContractType) (name : List ℕ) → Redeems type → is_among (own_terms type) name ≡ (is_among loan_terms name || is_among redemption_terms name)
 own_is type name redeems = ap (λ names. is_among names name) (own_of type redeems) ∙ among_both loan_terms redemption_terms name
-
--- the names of an object that aren't among them
-pub unused_of : (type : ContractType) (value : Data) (inner : Members) → Some inner ≡ as_object value → unused_names type value ≡ filter (λ name. not (is_term_of type name)) (member_names inner)
-unfolding unused_names
-unused_of type (object inside) inner e =
-    let same : inside ≡ inner = cc in ap (λ m. filter (λ name. not (is_term_of type name)) (member_names m)) same
-unused_of type value inner e = absurd (cc)

@@ -11,8 +11,8 @@ use Rattle.std.proofs.lemmas.List.{drop_more}
 use Rattle.json.specs.Value.{members_view, value_view}
 use Rattle.json.specs.declared.value.Value.{Value}
 use Rattle.serde_json.specs.Data.{Data}
-use Rattle.act_json.proofs.TreeNames.{kept_names}
-use Rattle.act_json.specs.Tree.{Listed, object_in, with_name, with_names}
+use Rattle.act_json.proofs.TreeNames.{kept_names, with_name, with_names}
+use Rattle.act_json.specs.Tree.{Listed, object_in}
 use Rattle.act_model.specs.declared.choice.ContractType.{ContractType}
 use Rattle.act_terms.specs.Used.{is_term_of, member_names, unused_names}
 

@@ -149,7 +149,7 @@ const GUARANTEE_TERMS: [&str; 6] = [
 
 /// The names of a contract's object that aren't terms of that type, in byte order, each once and whatever its value is,
 /// null and the empty text too. A value that is no object has no names. NoMemory where memory runs out.
-#[tactic(auto, using(crate::proofs::TermNames::unused_of), unfolding(crate::specs::Used::unused_names))]
+#[tactic(auto, unfolding(crate::specs::Used::unused_names))]
 pub fn unused_names(
     alloc: Global,
     contract_type: ContractType,

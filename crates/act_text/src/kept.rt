@@ -59,30 +59,37 @@ impl<'a> RowLines<'a> {
         &self.text
     }
 
-    /// Makes them the lines of a run's rows. Those of the first rows stay, as far as rows are found to be printed alike. Where
-    /// memory runs out, they are the lines of the run's first rows, or, where the run couldn't be shared, all as before.
-    pub fn renew(&mut self, run: &Arc<Run, Global>) -> Result<(), NoMemory>
+    /// Makes them the lines of a run's rows, of which the first, so many, are known to be the same. Those of the first rows stay,
+    /// as far as rows are known or found to be printed alike. Where memory runs out, they are the lines of the run's first rows,
+    /// or, where the run couldn't be shared, all as before.
+    pub fn renew(&mut self, run: &Arc<Run, Global>, known: usize) -> Result<(), NoMemory>
+        requires here { known ≤ length self.old.rows }
+        requires there { known ≤ length (arc_value run.now).rows }
+        requires same { take known self.old.rows ≡ take known (arc_value run.now).rows }
         ensures names { self.new.names ≡ self.old.names }
         ensures rows { OnOk result (self.new.rows ≡ (arc_value run.now).rows) }
         ensures fewer { OnErr result ((self.new ≡ self.old)
             ⊎ ((count : ℕ) × (self.new.rows ≡ take count (arc_value run.now).rows))) }
     {
         let kept = Arc::try_clone(run)?;
-        let same = self.count_alike(&run.rows);
+        let same = self.count_alike(&run.rows, known);
         self.text.truncate(start_of(&self.ends, same));
         self.ends.truncate(same);
         self.run = Some(kept);
         add_lines(self.names, &run.rows, &mut self.text, &mut self.ends)
     }
 
-    /// How many rows at the beginning are found to be printed alike.
-    fn count_alike(&self, rows: &Rows) -> usize
+    /// How many rows at the beginning are found to be printed alike, where the first, so many, are known to be the same.
+    fn count_alike(&self, rows: &Rows, known: usize) -> usize
+        requires here { known ≤ length self.now.rows }
+        requires there { known ≤ length rows.now }
+        requires same { take known self.now.rows ≡ take known rows.now }
         ensures here { result ≤ length self.now.rows }
         ensures there { result ≤ length rows.now }
         ensures alike { ArePrintedAlike (take result self.now.rows) (take result rows.now) }
     {
         match &self.run {
-            Some(run) => run.rows.count_alike(rows, self.ends.len()),
+            Some(run) => run.rows.count_alike(rows, known, self.ends.len()),
             None => 0,
         }
     }

@@ -44,7 +44,7 @@ all-back : {X : Type 0} (P : X → Type 0) (xs ys : List X) → All P (xs ++ ys)
 all-back P [] ys all = all
 all-back P (x ∷ xs) ys all = all-back P xs ys (all-tail P x (xs ++ ys) all)
 
-all-flat : {X Y : Type 0} (P : Y → Type 0) (f : X → List Y) (xs : List X) → ((x : X) → All P (f x)) → All P (flat_map f xs)
+pub all-flat : {X Y : Type 0} (P : Y → Type 0) (f : X → List Y) (xs : List X) → ((x : X) → All P (f x)) → All P (flat_map f xs)
 all-flat P f [] all = All-nil P
 all-flat P f (x ∷ xs) all = All-append P (f x) (flat_map f xs) (all x) (all-flat P f xs all)
 

@@ -1,26 +1,32 @@
 -- Lines that are kept of contracts, and what is known of them.
-use Rattle.std.proofs.Common.{zero, suc, ◌≡◌, ℕ, ◌<◌, ◌≤◌, Bool, true, List, [], ◌∷◌, ◌++◌, length, map, take, get_or, set, Option, None, Some, IfSome, IsSomeAnd, OnOk, Result, Ok, Err, inl, inr, refl, sym, ap, subst, ◌∙◌, arith}
-use Rattle.std.specs.List.{All, range_with_len, slice_get}
-use Rattle.std.proofs.lemmas.Bool.{cases_eq}
-use Rattle.std.proofs.lemmas.List.Elements.{All-head, All-map, All-push, All-tail, All-take}
-use Rattle.std.proofs.lemmas.List.FromFn.{get_or-map-range_with_len, length-map-range_with_len}
-use Rattle.std.proofs.lemmas.List.{length-set, take_all, take-append-le}
-use Rattle.std.proofs.lemmas.Option.{same_Some, slice_get_within}
+use Rattle.std.proofs.Common.{zero, suc, ◌≡◌, ℕ, ◌+◌, ◌<◌, ◌≤◌, ℤ, List, [], ◌∷◌, ◌++◌, length, map, take, get_or, set, Option, None, Some, unwrap_or, IfSome, IsSomeAnd, OnOk, Result, Ok, Err, inl, inr, refl, sym, ap, subst, ◌∙◌, arith, below_more, Global, option_map}
+use Rattle.std.specs.Arc.{arc_value}
+use Rattle.std.specs.declared.sync.Arc.{Arc}
+use Rattle.std.specs.List.{All, slice_get}
+use Rattle.std.proofs.lemmas.Bool.{cases_Bool, cases_eq}
+use Rattle.std.proofs.lemmas.List.Elements.{All-head, All-push, All-tail, All-take}
+use Rattle.std.proofs.lemmas.List.{length-set, length-take, take_all, take-append-le, take-take}
+use Rattle.std.proofs.lemmas.Option.{get_or_from_slice_get, same_Some, slice_get-get_or, slice_get-map, slice_get_within}
+use Rattle.act_board.specs.History.{History, entries_of, version_of}
 use Rattle.act_board.proofs.Places.{get-set, get-set_other}
-use Rattle.act_model.specs.Names.{NameLists}
+use Rattle.act_model.specs.Answer.{Reply}
 use Rattle.act_model.specs.Run.{Stream}
-use Rattle.act_model.specs.declared.asks.Asking.{Asking}
-use Rattle.act_model.specs.declared.journal.Asked.TheVariants as asking
-use Rattle.act_model.specs.declared.journal.Step.TheVariants as step
 use Rattle.act_model.specs.declared.observed.Obs.{Obs}
 use Rattle.act_model.specs.declared.run.Row.{Row}
-use Rattle.act_model.specs.Journal.{contracts_of, is_known}
-use Rattle.act_profile.specs.Answers.{answer_to}
-use Rattle.act_profile.specs.Run.{Contracts, run_of}
+use Rattle.act_portfolio.specs.Reading.{Accepted}
+use Rattle.act_model.specs.Run.{EventPlan}
+use Rattle.act_model.specs.declared.terms.Terms.{Terms}
+use Rattle.act_profile.specs.Kept.{KeptRows, kept_of}
+use Rattle.act_profile.specs.Run.{Contracts, deepest, run_of, run_to, run_where_given}
+use Rattle.act_profile.specs.Stops.{comes_before, stop_day}
+use Rattle.act_run.proofs.DayOrder.{none_in_day_order}
+use Rattle.act_run.proofs.FirstRows.{early_first}
+use Rattle.act_run.proofs.Limited.{run_in_day_order}
+use Rattle.act_swap.specs.Children.{AreInDayOrder}
 use Rattle.act_text.specs.Kept.{Lines}
 use Rattle.act_top.specs.declared.writing.Stop.{Stop}
-use Rattle.act_top.specs.Known.{AreKnown, AreRenewed, IsKnown, IsRenewed}
-use Rattle.act_top.proofs.Stepping.{named-asked}
+use Rattle.act_top.specs.Ready.{shared_runs}
+use Rattle.act_top.specs.Known.{AreKeptAt, AreKnown, AreOfAll, AreRenewed, AreWrittenAt, IsKnown, IsKnownTo, IsRenewed, IsReplyOn}
 
 -- ---- where all went well
 
@@ -38,47 +44,109 @@ ok-so (Err stop) P so = tt
 
 -- nothing is known
 pub nothing-known : (kept : List Lines) (runs : List (ℕ × Stream)) → AreKnown [] kept runs
-nothing-known kept runs k d within = λ is lines at. absurd (cc)
+nothing-known kept runs = inl refl
 
 -- the lines of a contract were renewed in their place
-pub renewed-set : (known : List Bool) (c : ℕ) (run : Stream) (before : List Lines) (old new : Lines) → c < length before → slice_get before c ≡ Some old → new.rows ≡ run.rows
-    → (slice_get known c ≡ Some true → new ≡ old) → IsRenewed known c run before (set before c new)
-renewed-set known c run before old new within here same stays = record {
+pub renewed-set : (c : ℕ) (run : Stream) (before : List Lines) (new : Lines) → c < length before → new.rows ≡ run.rows → IsRenewed c run before (set before c new)
+renewed-set c run before new within same = record {
   count = length-set before c new;
   this = λ lines at. ap (λ (l : Lines). l.rows) (sym (same_Some new lines (sym (get-set before c new within) ∙ at))) ∙ same;
   others = λ d other. get-set_other before c d new other;
-  stay = λ is. ap (set before c) (stays is) ∙ set-same before c old here;
 }
-  where
-    set-same : (xs : List Lines) (i : ℕ) (x : Lines) → slice_get xs i ≡ Some x → set xs i x ≡ xs
-    set-same [] i x at = refl
-    set-same (y ∷ xs) zero x at = ap (λ (z : Lines). z ∷ xs) (sym (same_Some y x at))
-    set-same (y ∷ xs) (suc i) x at = ap (λ (zs : List Lines). y ∷ zs) (set-same xs i x at)
+
+-- of a contract with a cut, its rows stand by their days, and its lines are known
+pub order-there : (cuts : List (Option ℤ)) (kept : List Lines) (c : ℕ) (run : Stream) (cut : Option (Option ℤ)) → IsKnown cuts kept c run → cut ≡ slice_get cuts c → IfSome cut (λ _. AreInDayOrder run.rows)
+order-there cuts kept c run None known at = tt
+order-there cuts kept c run (Some cut) known at = (known cut (sym at)).0
+
+pub known-there : (cuts : List (Option ℤ)) (kept : List Lines) (c : ℕ) (run : Stream) (cut : Option (Option ℤ)) (lines : Lines) → IsKnown cuts kept c run → slice_get kept c ≡ Some lines → cut ≡ slice_get cuts c
+    → IfSome cut (λ cut. IsKnownTo cut lines.rows run)
+known-there cuts kept c run None lines known here at = tt
+known-there cuts kept c run (Some cut) lines known here at = (known cut (sym at)).1 lines here
 
 -- there is no place for the lines of a contract
-pub renewed-none : (known : List Bool) (c : ℕ) (run : Stream) (kept : List Lines) → length kept ≤ c → IsRenewed known c run kept kept
-renewed-none known c run kept past = record {
+pub renewed-none : (c : ℕ) (run : Stream) (kept : List Lines) → length kept ≤ c → IsRenewed c run kept kept
+renewed-none c run kept past = record {
   count = refl;
   this = λ lines at. absurd (omega (arith, past, slice_get_within kept c lines at));
   others = λ d other. refl;
-  stay = λ is. refl;
 }
+
+-- ---- what is kept of a run under a cut
+
+-- they are its first rows
+kept-first : (run : Stream) (cut : Option ℤ) → AreInDayOrder run.rows → take (length (kept_of run cut).rows) run.rows ≡ (kept_of run cut).rows
+unfolding kept_of
+kept-first run None order = take_all (length run.rows) run.rows (omega arith)
+kept-first run (Some cut) order =
+    elim (cases_Bool (comes_before (stop_day run.close) (Some cut))) [
+      | inl stops ↦ rw stops (take_all (length run.rows) run.rows (omega arith))
+      | inr goes_on ↦ rw goes_on (early_first cut run.rows order)
+    ]
+
+kept-within : (run : Stream) (cut : Option ℤ) → AreInDayOrder run.rows → length (kept_of run cut).rows ≤ length run.rows
+kept-within run cut order =
+    let n = length (kept_of run cut).rows in
+    omega (arith, ap length (kept-first run cut order), length-take n run.rows)
+
+kept-all : (run : Stream) → (kept_of run None).rows ≡ run.rows
+unfolding kept_of
+kept-all run = refl
+
+-- a run knows its own rows
+own-known : (run : Stream) (rows : List Row) (cut : Option ℤ) → AreInDayOrder run.rows → rows ≡ run.rows → IsKnownTo cut rows run
+own-known run rows cut order is = record {
+  within = omega (arith, kept-within run cut order, ap length is);
+  same = ap (take (length (kept_of run cut).rows)) is;
+  whole = λ none. is;
+}
+
+-- of which the same is kept, the one knows the first rows of the other
+pub known-by : (before run : Stream) (cut : Option ℤ) → AreInDayOrder before.rows → AreInDayOrder run.rows → kept_of before cut ≡ kept_of run cut → IsKnownTo cut before.rows run
+known-by before run cut order order' same =
+    let rows : (kept_of before cut).rows ≡ (kept_of run cut).rows = ap (λ (k : KeptRows). k.rows) same in
+    record {
+      within = omega (arith, kept-within before cut order, ap length rows);
+      same = ap (λ (n : ℕ). take n before.rows) (ap length (sym rows)) ∙ kept-first before cut order ∙ rows ∙ sym (kept-first run cut order');
+      whole = λ none. sym (kept-all before) ∙ (ap (λ (k : KeptRows). k.rows) (ap (kept_of before) (sym none) ∙ same ∙ ap (kept_of run) none)) ∙ kept-all run;
+    }
+
+-- the rows of a contract's run stand by their days
+run-order : (terms : Option Terms) (plan : Option EventPlan) (entries : List Obs) (children : List Stream) → AreInDayOrder (run_where_given terms plan entries children).rows
+run-order None plan entries children = none_in_day_order
+run-order (Some terms) None entries children = none_in_day_order
+run-order (Some terms) (Some plan) entries children = run_in_day_order terms plan entries children
+
+to-order : (n : ℕ) (contracts : Contracts) (entries : List Obs) (c : ℕ) → AreInDayOrder (run_to n contracts entries c).rows
+unfolding run_to
+to-order zero contracts entries c = none_in_day_order
+to-order (suc n) contracts entries c = run-order (slice_get contracts.terms c) (slice_get contracts.plans c) entries (map (run_to n contracts entries) (unwrap_or (slice_get contracts.children c) []))
 
 -- ---- of contracts with their runs
 
 -- what is known of the first of some runs
-pub first-known : (known : List Bool) (kept : List Lines) (run : ℕ × Stream) (runs : List (ℕ × Stream)) → AreKnown known kept (run ∷ runs) → IsKnown known kept run.0 run.1
-first-known known kept run runs are = All-head (λ (r : ℕ × Stream). IsKnown known kept r.0 r.1) run runs are
+pub first-known : (cuts : List (Option ℤ)) (kept : List Lines) (run : ℕ × Stream) (runs : List (ℕ × Stream)) → AreKnown cuts kept (run ∷ runs) → IsKnown cuts kept run.0 run.1
+first-known cuts kept run runs (inl none) = λ cut is. absurd (let never = ap (λ (cs : List (Option ℤ)). slice_get cs run.0) (sym none) ∙ is in cc)
+first-known cuts kept run runs (inr are) = All-head (λ (r : ℕ × Stream). IsKnown cuts kept r.0 r.1) run runs are.2
 
 -- what is known of the runs behind one is known behind it
-pub known-next : (known : List Bool) (before after : List Lines) (run : ℕ × Stream) (runs : List (ℕ × Stream)) → AreKnown known before (run ∷ runs) → IsRenewed known run.0 run.1 before after → AreKnown known after runs
-known-next known before after run runs are renewed k d within = λ is lines at.
-    let c = (get_or runs k d).0 in
-    let was = All-tail (λ (r : ℕ × Stream). IsKnown known before r.0 r.1) run runs are k d within is lines in
-    elim (cases_eq c run.0) [
-      | inl same ↦ was (ap (λ (ls : List Lines). slice_get ls c) (sym (renewed.stay (ap (slice_get known) (sym same) ∙ is))) ∙ at)
-      | inr other ↦ was (sym (renewed.others c other) ∙ at)
-    ]
+pub known-next : (cuts : List (Option ℤ)) (before after : List Lines) (run : ℕ × Stream) (runs : List (ℕ × Stream)) → AreKnown cuts before (run ∷ runs) → IsRenewed run.0 run.1 before after → AreKnown cuts after runs
+known-next cuts before after run runs (inl none) renewed = inl none
+known-next cuts before after run runs (inr are) renewed = inr (
+  are.0,
+  All-tail (λ (r : ℕ × Stream). r.1 ≡ are.0 r.0) run runs are.1,
+  λ k d within cut is.
+      let r = get_or runs k d in
+      let was = All-tail (λ (r : ℕ × Stream). IsKnown cuts before r.0 r.1) run runs are.2 k d within cut is in (
+        was.0,
+        λ lines at. elim (cases_eq r.0 run.0) [
+          | inl same ↦
+              let own : r.1 ≡ run.1 = All-tail (λ (r : ℕ × Stream). r.1 ≡ are.0 r.0) run runs are.1 k d within ∙ ap are.0 same ∙ sym (All-head (λ (r : ℕ × Stream). r.1 ≡ are.0 r.0) run runs are.1) in
+              own-known r.1 lines.rows cut was.0 (renewed.this lines (ap (slice_get after) (sym same) ∙ at) ∙ ap (λ (s : Stream). s.rows) (sym own))
+          | inr other ↦ was.1 lines (sym (renewed.others r.0 other) ∙ at)
+        ],
+      ),
+)
 
 -- the rows of these runs go by their contracts
 abbrev HaveRows : (ℕ → List Row) → List (ℕ × Stream) → Type 0
@@ -98,8 +166,8 @@ pub renewed-nothing : (kept : List Lines) → AreRenewed [] kept kept
 renewed-nothing kept = record { count = refl; each = λ rows all k d within. absurd (omega arith) }
 
 -- the lines of the runs before one, and then of this one too, are theirs
-pub renewed-next : (known : List Bool) (first before after : List Lines) (run : ℕ × Stream) (done : List (ℕ × Stream)) → AreRenewed done first before → IsRenewed known run.0 run.1 before after → AreRenewed (done ++ run ∷ []) first after
-renewed-next known first before after run done are renewed = record {
+pub renewed-next : (first before after : List Lines) (run : ℕ × Stream) (done : List (ℕ × Stream)) → AreRenewed done first before → IsRenewed run.0 run.1 before after → AreRenewed (done ++ run ∷ []) first after
+renewed-next first before after run done are renewed = record {
   count = renewed.count ∙ are.count;
   each = λ rows all.
       let last = rows-last rows done run all in
@@ -114,52 +182,59 @@ renewed-next known first before after run done are renewed = record {
       (λ lines at. renewed.this lines at ∙ last);
 }
 
--- ---- of an answer
+-- ---- of an answer of a board
 
--- the lines that are kept of contracts with names are those of their runs over the first entries of a book, so many
-abbrev pub AreWrittenAt : Contracts → NameLists → List Obs → List Lines → ℕ → Type 0
-AreWrittenAt contracts names book kept version =
-    (c : ℕ) → c < length names.contracts → (lines : Lines) → slice_get kept c ≡ Some lines → lines.rows ≡ (run_of contracts (take version book) c).rows
+-- what is known of a run at a version: what the cuts since its lines were written keep
+run-known : (board : History) (version : ℕ) (cuts : List (Option ℤ)) (kept : List Lines) (at : Option ℕ) (c : ℕ) → AreKeptAt board kept at
+    → ((cut : Option ℤ) → slice_get cuts c ≡ Some cut → IsSomeAnd at (λ v. kept_of (run_of board.portfolio.contracts (take v (entries_of board)) c) cut ≡ kept_of (run_of board.portfolio.contracts (take version (entries_of board)) c) cut))
+    → IsKnown cuts kept c (run_of board.portfolio.contracts (take version (entries_of board)) c)
+run-known board version cuts kept None c written since cut is = absurd (since cut is)
+run-known board version cuts kept (Some v) c written since cut is =
+    let contracts = board.portfolio.contracts in
+    let before = take v (entries_of board) in
+    let now = take version (entries_of board) in (
+      to-order deepest contracts now c,
+      λ lines here. subst (λ (rows : List Row). IsKnownTo cut rows (run_of contracts now c)) (sym (written.1 c lines here))
+          (known-by (run_of contracts before c) (run_of contracts now c) cut (to-order deepest contracts before c) (to-order deepest contracts now c) (since cut is)),
+    )
 
--- what is known of the runs of an answer: where nothing was appended since that a contract reads
-pub answer-known : (contracts : Contracts) (names : NameLists) (entries book : List Obs) (ask : Asking) (known : List Bool) (kept : List Lines) (at : Option ℕ) → is_known names (step.Ask ask.asked) ≡ true
-    → take ask.version entries ≡ entries → ((v : ℕ) → v ≤ ask.version → take v entries ≡ take v book)
-    → IfSome at (λ v. (v ≤ ask.version) × AreWrittenAt contracts names book kept v)
-    → ((c : ℕ) → slice_get known c ≡ Some true → IsSomeAnd at (λ v. run_of contracts (take v entries) c ≡ run_of contracts entries c))
-    → AreKnown known kept (answer_to contracts names entries ask).runs
-answer-known contracts names entries book ask known kept at named whole same written unread =
-    All-map (λ (run : ℕ × Stream). IsKnown known kept run.0 run.1) (λ c. (c, run_of contracts (take ask.version entries) c)) (contracts_of names ask.asked)
-    (λ k d within. each at (get_or (contracts_of names ask.asked) k d) (named-asked names ask.asked named k d within).1 written (unread (get_or (contracts_of names ask.asked) k d)))
-  where
-    each : (at : Option ℕ) (c : ℕ) → c < length names.contracts → IfSome at (λ v. (v ≤ ask.version) × AreWrittenAt contracts names book kept v)
-        → (slice_get known c ≡ Some true → IsSomeAnd at (λ v. run_of contracts (take v entries) c ≡ run_of contracts entries c)) → IsKnown known kept c (run_of contracts (take ask.version entries) c)
-    each None c few written unread is lines here = absurd (unread is)
-    each (Some v) c few written unread is lines here =
-        written.1 c few lines here
-        ∙ (ap (λ (es : List Obs). (run_of contracts es c).rows) (sym (same v written.0))
-        ∙ (ap (λ (run : Stream). run.rows) (unread is) ∙ ap (λ (es : List Obs). (run_of contracts es c).rows) (sym whole)))
+-- the same of all runs of an answer
+pub answer-known : (board : History) (reply : Reply) (cuts : List (Option ℤ)) (kept : List Lines) (at : Option ℕ) → IsReplyOn board reply → AreKeptAt board kept at
+    → ((c : ℕ) (cut : Option ℤ) → slice_get cuts c ≡ Some cut → IsSomeAnd at (λ v. kept_of (run_of board.portfolio.contracts (take v (entries_of board)) c) cut ≡ kept_of (run_of board.portfolio.contracts (take reply.version (entries_of board)) c) cut))
+    → AreKnown cuts kept reply.runs
+answer-known board reply cuts kept at of written since =
+    let own : ℕ → Stream = λ c. run_of board.portfolio.contracts (take reply.version (entries_of board)) c in
+    inr (
+      own,
+      of.runs,
+      λ k d within.
+          let run = get_or reply.runs k d in
+          subst (IsKnown cuts kept run.0) (sym (of.runs k d within)) (run-known board reply.version cuts kept at run.0 written (since run.0)),
+    )
 
--- once all contracts were asked for, their lines are those of the book then
-pub answer-written : (contracts : Contracts) (names : NameLists) (entries book : List Obs) (ask : Asking) (before kept : List Lines) → ask.asked ≡ asking.All → take ask.version entries ≡ take ask.version book
-    → AreRenewed (answer_to contracts names entries ask).runs before kept → AreWrittenAt contracts names book kept ask.version
-answer-written contracts names entries book ask before kept all same renewed = λ c few lines here.
-    let f : ℕ → ℕ × Stream = λ c. (c, run_of contracts (take ask.version entries) c) in
-    let rows : ℕ → List Row = λ c. (run_of contracts (take ask.version entries) c).rows in
-    let runs : contracts_of names ask.asked ≡ range_with_len 0 (length names.contracts) = ap (contracts_of names) all in
-    let own = renewed.each rows (All-map (λ (run : ℕ × Stream). run.1.rows ≡ rows run.0) f (contracts_of names ask.asked) (λ k d within. refl)) in
-    let at = get_or-map-range_with_len f 0 (length names.contracts) c c (f c) few (omega arith) in
-    let given = subst (λ (cs : List ℕ). All (λ (run : ℕ × Stream). (lines : Lines) → slice_get kept run.0 ≡ Some lines → lines.rows ≡ rows run.0) (map f cs)) runs own c (f c) (omega (arith, few, length-map-range_with_len f 0 (length names.contracts))) in
-    subst (λ (run : ℕ × Stream). (lines : Lines) → slice_get kept run.0 ≡ Some lines → lines.rows ≡ rows run.0) at given lines here
-    ∙ ap (λ (es : List Obs). (run_of contracts es c).rows) same
+-- runs up to a place are of all contracts before it, and the next one is of the contract there
+pub of-next : (runs : List (ℕ × Arc Stream Global)) (place : ℕ) (run : ℕ × Arc Stream Global) → AreOfAll place (shared_runs runs) → place < length runs → run ≡ get_or runs place run → run.0 ≡ place → AreOfAll (place + 1) (shared_runs runs)
+of-next runs place run all within is same =
+    let shared : ℕ × Arc Stream Global → ℕ × Stream = λ r. (r.0, arc_value r.1) in
+    below_more (λ c. (r : ℕ × Stream) × (slice_get (shared_runs runs) c ≡ Some r) × (r.0 ≡ c)) place all
+    (shared run, slice_get-map shared runs place ∙ ap (option_map shared) (slice_get-get_or runs place run within ∙ ap (λ (r : ℕ × Arc Stream Global). Some r) (sym is)), same)
 
--- what was written at a version up to one was written at one up to a later
-pub written-later : (at : Option ℕ) (now later : ℕ) (P : ℕ → Type 0) → now ≤ later → IfSome at (λ v. (v ≤ now) × P v) → IfSome at (λ v. (v ≤ later) × P v)
-written-later None now later P le is = tt
-written-later (Some v) now later P le is = (omega (arith, is.0, le), is.1)
+-- once an answer of all contracts was written, their lines are those at its version
+pub answer-written : (board : History) (reply : Reply) (before kept : List Lines) → IsReplyOn board reply → AreOfAll (length kept) reply.runs → AreRenewed reply.runs before kept → AreWrittenAt board kept reply.version
+answer-written board reply before kept of all renewed = λ c lines here.
+    let rows : ℕ → List Row = λ c. (run_of board.portfolio.contracts (take reply.version (entries_of board)) c).rows in
+    let told = renewed.each rows (λ k d within. ap (λ (s : Stream). s.rows) (of.runs k d within)) in
+    let there = all c (slice_get_within kept c lines here) in
+    let run = there.0 in
+    let this = subst (λ (r : ℕ × Stream). (lines : Lines) → slice_get kept r.0 ≡ Some lines → lines.rows ≡ rows r.0) (get_or_from_slice_get reply.runs c run run there.1) (told c run (slice_get_within reply.runs c run there.1)) in
+    subst (λ (d : ℕ). (lines : Lines) → slice_get kept d ≡ Some lines → lines.rows ≡ rows d) there.2 this lines here
 
--- the first of the first entries
-pub first-entries : (v n : ℕ) (entries : List Obs) → v ≤ n → take v (take n entries) ≡ take v entries
-first-entries zero n entries le = refl
-first-entries (suc v) zero entries le = absurd (omega arith)
-first-entries (suc v) (suc n) [] le = refl
-first-entries (suc v) (suc n) (entry ∷ entries) le = ap (λ (rest : List Obs). entry ∷ rest) (first-entries v n entries (omega arith))
+-- lines that were written at a version of a board are so of one whose book goes on
+pub kept-later : (before after : History) (kept : List Lines) (at : Option ℕ) → after.portfolio ≡ before.portfolio → take (version_of before) (entries_of after) ≡ entries_of before → AreKeptAt before kept at → AreKeptAt after kept at
+kept-later before after kept None portfolio goes_on is = tt
+kept-later before after kept (Some v) portfolio goes_on is = (
+  omega (arith, is.0, ap length goes_on, length-take (version_of before) (entries_of after)),
+  λ c lines here. is.1 c lines here
+      ∙ (ap (λ (p : Accepted). (run_of p.contracts (take v (entries_of before)) c).rows) (sym portfolio)
+      ∙ ap (λ (entries : List Obs). (run_of after.portfolio.contracts entries c).rows) (ap (take v) (sym goes_on) ∙ take-take v (version_of before) (entries_of after) is.0)),
+)

@@ -1,8 +1,7 @@
 //! The answers to the asks of a script, evaluated on a board and written one after the other.
-ghost use Rattle.std.specs.Prelude.{◌≡◌, ◌∷◌, [], ◌+◌, ◌-◌, ◌≤◌, length, IfOk, IfSome};
+ghost use Rattle.std.specs.Prelude.{◌≡◌, ◌∷◌, [], ◌+◌, ◌-◌, ◌≤◌, length, IfOk};
 ghost use Rattle.std.specs.List.{flat_map, list_all};
 ghost use Rattle.act_model.specs.Journal.{book_of};
-ghost use Rattle.act_model.specs.declared.journal.Asked.TheVariants.{All};
 ghost use Rattle.act_print.specs.Printed.{printed_answer};
 ghost use Rattle.act_print.specs.Text.{answer_text};
 ghost use Rattle.act_profile.specs.Answers.{answers_of};
@@ -10,15 +9,16 @@ ghost use Rattle.act_top.specs.Output.{ends_well, eval_text, items_of, output_of
 ghost use Rattle.act_top.specs.Work.{work_of};
 ghost use Rattle.act_top.specs.Written.{Writes, faults_after};
 
-use crate::driving::{answer, append, unread_since};
+use crate::by_cuts::write_by_cuts;
+use crate::driving::{answer, append};
 use crate::evaluation::Evaluation;
 use crate::journal::{ask_count, entry_count};
 use crate::rows::no_lines;
-use crate::transcript::{write_answer, write_opening, write_work};
+use crate::transcript::{write_opening, write_work};
 use crate::writing::Stop;
 use act_board::Board;
 use act_io::Sink;
-use act_model::{Asked, Step};
+use act_model::Step;
 use act_num::{NoMemory, Steps};
 use std::alloc::Global;
 use std::sync::Arc;
@@ -96,7 +96,7 @@ impl Evaluation {
         ensures counted { IfOk result (λ _. work.new + steps.old ≡ work.old + steps.new) }
         ensures faults { K.faults out.new ≡ faults_after result (K.faults out.old) }
     {
-        let contracts = self.portfolio.terms().len();
+        let contracts = self.portfolio.named() as usize;
         let answers = ask_count(&self.script.lines);
         let mut kept = no_lines(alloc, self.names(), contracts, answers)?;
         // The version at which the kept lines of all contracts were written.
@@ -107,25 +107,16 @@ impl Evaluation {
                 Step::Append(entry) => append(board, entry)?,
                 Step::Ask(asked) => {
                     let answer = answer(alloc, &self.portfolio, board, asked, work, steps)?;
-                    let known = unread_since(alloc, board, at);
-                    let written = write_answer(out, line, self.names(), &mut kept, &known, &answer);
+                    let names = self.names();
+                    let written = write_by_cuts(
+                        out, line, names, &mut kept, board, &mut at, &answer,
+                    );
                     drop(answer);
                     let ends = written?;
                     ended &= ends;
-                    at = written_at(asked, board.version());
                 }
             }
         }
         Ok(ended)
-    }
-}
-
-/// The version at which the lines of all contracts were written, where all were asked for.
-fn written_at(asked: Asked, version: u64) -> Option<u64>
-    ensures { IfSome result (λ at. (at ≡ version) × (asked ≡ All)) }
-{
-    match asked {
-        Asked::All => Some(version),
-        Asked::One(_) => None,
     }
 }

@@ -181,8 +181,8 @@ fn write_played<K: Sink>(alloc: Global, out: &mut K, job: &DeskJob, played: Sess
     requires { IsPlayOf job.now played }
     ensures { RunsAs job.now result.status result.board (K.written out.old) (K.written out.new) (K.faults out.old) (K.faults out.new) }
 {
-    let Session { board, answers } = played;
-    let written = job.write(alloc, out, board.journal(), &answers);
+    let Session { mut board, answers } = played;
+    let written = job.write(alloc, out, &mut board, &answers);
     drop(answers);
     match written {
         Ok(ended) => Ran {

@@ -2,6 +2,7 @@
 ghost use Rattle.std.specs.Prelude.{◌≡◌, ◌≤◌, count_by, length, not, IfErr, IfOk, IfSome, ⊤};
 ghost use Rattle.std.specs.Arc.{arc_value};
 ghost use Rattle.std.specs.List.{All, list_all};
+ghost use Rattle.act_board.specs.History.{journal_of};
 ghost use Rattle.act_board.specs.Legal.{most_asks};
 ghost use Rattle.act_model.specs.Journal.{is_append};
 ghost use Rattle.act_model.specs.declared.journal.Line.{Line as StepLine};
@@ -23,9 +24,10 @@ use crate::desk_command::DeskCommand;
 use crate::halt::Halt;
 use crate::reading::read_portfolio;
 use crate::scripts::{Scripts, read_scripts};
-use crate::transcript::write_transcript;
+use crate::transcript::write_board;
 use crate::weight::check_weight;
 use crate::writing::Stop;
+use act_board::Board;
 use act_io::{Files, Sink};
 use act_model::{Answer, Item, Line, Names};
 use act_num::NoMemory;
@@ -150,24 +152,27 @@ impl DeskJob {
         &self.scripts.names
     }
 
-    /// Writes a journal of the scripts and the answers to its asks, caller after caller. It answers whether each block ends
-    /// in `end`.
+    /// Writes the journal of a board on which the scripts were played, and the answers to its asks, caller after caller. It answers
+    /// whether each block ends in `end`.
     pub(crate) fn write<K: Sink>(
         &self,
         alloc: Global,
         out: &mut K,
-        items: &[Item],
+        board: &mut Board,
         answers: &[Vec<Answer>],
     ) -> Result<bool, Stop>
-        requires interleaved { IsInterleaving self.now.scripts.lists items.now }
-        requires answers { replies_of answers.now ≡ answers_of self.now.portfolio.contracts self.now.portfolio.names items.now }
-        ensures text { Writes result (output_of self.now.portfolio self.now.scripts.names items.now) (K.written out.old) (K.written out.new) }
+        requires portfolio { board.old.portfolio ≡ self.now.portfolio }
+        requires interleaved { IsInterleaving self.now.scripts.lists (journal_of board.old) }
+        requires answers { replies_of answers.now ≡ answers_of self.now.portfolio.contracts self.now.portfolio.names (journal_of board.old) }
+        ensures text { Writes result (output_of self.now.portfolio self.now.scripts.names (journal_of board.old))
+            (K.written out.old) (K.written out.new) }
         ensures ended { IfOk result (λ ended. ended
-            ≡ list_all ends_well (answers_of self.now.portfolio.contracts self.now.scripts.names items.now)) }
+            ≡ list_all ends_well (answers_of self.now.portfolio.contracts self.now.scripts.names (journal_of board.old))) }
         ensures faults { K.faults out.new ≡ faults_after result (K.faults out.old) }
+        ensures board { board.new ≡ board.old }
     {
-        let contracts = self.portfolio.terms().len();
-        write_transcript(alloc, out, self.names(), contracts, items, answers)
+        let contracts = self.named() as usize;
+        write_board(alloc, out, self.names(), contracts, board, answers)
     }
 
     /// Writes the totals of the answers to a journal's asks, caller after caller, under the number of a large run.

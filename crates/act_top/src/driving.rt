@@ -1,5 +1,5 @@
 //! The board of a script, driven by one thread: the steps of the one caller, and the evaluations that it asks for.
-ghost use Rattle.std.specs.Prelude.{◌≡◌, ◌+◌, ◌<◌, ◌≤◌, ℕ, List, [], Some, false, length, slice_get, take, true, IfOk, IfSome, IsSomeAnd};
+ghost use Rattle.std.specs.Prelude.{◌≡◌, ◌+◌, ◌<◌, ◌≤◌, List, [], false, length, take, true, IfOk};
 ghost use Rattle.act_board.specs.History.{IsPresent, and_then, asks_by, entries_of, is_given_up, open_asks, version_of};
 ghost use Rattle.act_board.specs.Legal.{HasQuota, IsFull, IsOldest, IsReady, NoneIsClaimable, most_asks};
 ghost use Rattle.act_board.specs.declared.mark.Mark.TheVariants as mark;
@@ -9,7 +9,6 @@ ghost use Rattle.act_model.specs.declared.asks.Asking.{Asking};
 ghost use Rattle.act_model.specs.declared.journal.Step.TheVariants as step;
 ghost use Rattle.act_model.specs.declared.observed.Obs.{Obs};
 ghost use Rattle.act_profile.specs.Answers.{answer_to};
-ghost use Rattle.act_profile.specs.Run.{run_of};
 ghost use Rattle.act_top.specs.Work.{ask_work};
 ghost use Rattle.act_top.specs.Driven.{Adds, AreLatest, GoesOn, IsLater, IsQuiet, OnlyWorks, next_ask, rows_since};
 
@@ -34,23 +33,6 @@ pub fn append(board: &mut Board, entry: Obs) -> Result<(), NoMemory>
         Err(AppendFault::NoMemory) => Err(NoMemory),
         Err(AppendFault::QuotaSpent) => unreachable!(),
         Err(AppendFault::GivenUp) => unreachable!(),
-    }
-}
-
-/// For each contract, whether no entry since a version touches its cone, so that its run is the same; for none where there is no
-/// version, or no memory to tell.
-pub(crate) fn unread_since(alloc: Global, board: &mut Board, at: Option<u64>) -> Vec<bool>
-    requires { IfSome at (λ version. version ≤ version_of board.old) }
-    ensures runs { (c : ℕ) → slice_get result.items c ≡ Some true → IsSomeAnd at (λ version.
-        run_of board.old.portfolio.contracts (take version (entries_of board.old)) c ≡ run_of board.old.portfolio.contracts (entries_of board.old) c) }
-    ensures same { board.new ≡ board.old }
-{
-    let Some(version) = at else {
-        return Vec::new(alloc);
-    };
-    match board.unread_since(version) {
-        Ok(unread) => unread,
-        Err(NoMemory) => Vec::new(alloc),
     }
 }
 

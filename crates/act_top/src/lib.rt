@@ -6,6 +6,7 @@ mod answers;
 mod big;
 mod big_command;
 mod big_totals;
+mod by_cuts;
 mod check;
 mod command;
 mod desk;

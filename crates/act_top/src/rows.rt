@@ -1,16 +1,19 @@
 //! The lines of contracts' rows. Those that were written for an answer are kept for the next ones, whose rows are mostly the same.
-ghost use Rattle.std.specs.Prelude.{◌≡◌, true, Some, IfOk, OnOk, slice_get};
+ghost use Rattle.std.specs.Prelude.{◌≡◌, IfOk, IfSome, OnOk, slice_get};
 ghost use Rattle.std.specs.Arc.{arc_value};
 ghost use Rattle.std.specs.List.{flat_map};
 ghost use Rattle.act_text.specs.Kept.{AreWrittenWith};
 ghost use Rattle.act_text.specs.Lines.{row_text};
-ghost use Rattle.act_top.specs.Known.{IsKnown, IsRenewed};
+ghost use Rattle.act_swap.specs.Children.{AreInDayOrder};
+ghost use Rattle.act_top.specs.Known.{IsKnown, IsKnownTo, IsRenewed};
 ghost use Rattle.act_top.specs.Written.{Writes, faults_after};
 
 use crate::writing::{Stop, write_text};
+use act_date::Day;
 use act_io::Sink;
 use act_model::{Names, Rows, Run};
 use act_num::NoMemory;
+use act_run::kept_rows;
 use act_text::{RowLines, RowPrinter};
 use std::alloc::Global;
 use std::sync::Arc;
@@ -32,40 +35,36 @@ pub(crate) fn no_lines<'a>(
     Ok(kept)
 }
 
-/// Writes the lines of a contract's rows, and keeps them where there is a place for the contract. `known` tells of each contract
-/// whether the kept lines are known to be those of its rows, here and in what calls it; of one that it doesn't tell of they aren't.
+/// Writes the lines of a contract's rows, and keeps them where there is a place for the contract. Of a contract that has a cut,
+/// the kept lines are known to be those of its rows before it, here and in what calls it, and where that is None of all its rows.
 pub(crate) fn write_rows<K: Sink>(
     out: &mut K,
     names: &Names,
     kept: &mut [RowLines<'_>],
-    known: &[bool],
+    cuts: &[Option<Day>],
     contract: u32,
     run: &Arc<Run, Global>,
 ) -> Result<(), Stop>
     requires kept { AreWrittenWith names.now kept.old }
-    requires known { IsKnown known.now kept.old contract (arc_value run.now) }
+    requires known { IsKnown cuts.now kept.old contract (arc_value run.now) }
     ensures text { Writes result (flat_map (row_text names.now) (arc_value run.now).rows) (K.written out.old) (K.written out.new) }
     ensures faults { K.faults out.new ≡ faults_after result (K.faults out.old) }
     ensures kept { AreWrittenWith names.now kept.new }
-    ensures renewed { OnOk result (IsRenewed known.now contract (arc_value run.now) kept.old kept.new) }
+    ensures renewed { OnOk result (IsRenewed contract (arc_value run.now) kept.old kept.new) }
 {
     let place = contract as usize;
     if place < kept.len() {
-        write_kept_rows(out, &mut kept[place], are_known(known, place), run)
+        write_kept_rows(out, &mut kept[place], cut_at(cuts, place), run)
     } else {
         write_new_rows(out, names, &run.rows)
     }
 }
 
-/// Whether the lines of the contract at a place are known.
-fn are_known(known: &[bool], place: usize) -> bool
-    ensures yes { result ≡ true → slice_get known.now place ≡ Some true }
-    ensures no { slice_get known.now place ≡ Some true → result ≡ true }
+/// The cut of the contract at a place, where it has one.
+fn cut_at(cuts: &[Option<Day>], place: usize) -> Option<Option<Day>>
+    ensures { result ≡ slice_get cuts.now place }
 {
-    match known.get(place) {
-        Some(known) => *known,
-        None => false,
-    }
+    cuts.get(place).copied()
 }
 
 /// Writes the lines of a run's rows together. Those that are kept of the run before aren't put together again, and where they
@@ -73,18 +72,20 @@ fn are_known(known: &[bool], place: usize) -> bool
 fn write_kept_rows<K: Sink>(
     out: &mut K,
     lines: &mut RowLines<'_>,
-    known: bool,
+    cut: Option<Option<Day>>,
     run: &Arc<Run, Global>,
 ) -> Result<(), Stop>
-    requires known { known ≡ true → lines.old.rows ≡ (arc_value run.now).rows }
+    requires order { IfSome cut (λ _. AreInDayOrder (arc_value run.now).rows) }
+    requires known { IfSome cut (λ cut. IsKnownTo cut lines.old.rows (arc_value run.now)) }
     ensures text { Writes result (flat_map (row_text lines.old.names) (arc_value run.now).rows) (K.written out.old) (K.written out.new) }
     ensures faults { K.faults out.new ≡ faults_after result (K.faults out.old) }
     ensures names { lines.new.names ≡ lines.old.names }
     ensures rows { OnOk result (lines.new.rows ≡ (arc_value run.now).rows) }
-    ensures stays { known ≡ true → lines.new ≡ lines.old }
 {
-    if !known {
-        lines.renew(run)?;
+    match cut {
+        Some(None) => {}
+        Some(cut) => lines.renew(run, kept_rows(run, cut))?,
+        None => lines.renew(run, 0)?,
     }
     write_text(out, lines.text())
 }

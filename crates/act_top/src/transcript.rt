@@ -2,6 +2,7 @@
 ghost use Rattle.std.specs.Prelude.{◌≡◌, ◌≤◌, ◌<◌, ◌^◌, ℕ, true, ◌++◌, length, map, Err, IfOk, OnOk};
 ghost use Rattle.std.specs.Arc.{arc_value};
 ghost use Rattle.std.specs.List.{All, flat_map, list_all};
+ghost use Rattle.act_board.specs.History.{journal_of};
 ghost use Rattle.act_model.specs.Answer.{Reply};
 ghost use Rattle.act_model.specs.Journal.{is_known};
 ghost use Rattle.act_model.specs.Run.{Stream};
@@ -9,17 +10,20 @@ ghost use Rattle.act_print.specs.Printed.{printed_answer, printed_block};
 ghost use Rattle.act_print.specs.Text.{answer_head_text, answer_text, answers_head_text, block_head_text, block_text, item_text, journal_head_text, text_of};
 ghost use Rattle.act_text.specs.Kept.{AreWrittenWith};
 ghost use Rattle.act_text.specs.Lines.{close_text};
-ghost use Rattle.act_top.specs.Known.{AreKnown, AreRenewed, IsKnown, IsRenewed};
+ghost use Rattle.act_top.specs.Known.{AreKnown, AreRenewed, IsKnown, IsRenewed, IsReplyOn};
 ghost use Rattle.act_top.specs.Output.{all_end, ends_well, is_end, items_of, work_line};
 ghost use Rattle.act_top.specs.Ready.{answers_text, opening_text, runs_text, shared_runs};
 ghost use Rattle.act_session.specs.Playing.{replies_of};
 ghost use Rattle.act_top.specs.Written.{Writes, faults_after};
 
+use crate::by_cuts::write_lists_by_cuts;
 use crate::check::write_words;
 use crate::journal::{CALLER, ask_count};
 use crate::reading::Script;
 use crate::rows::{no_lines, write_rows};
 use crate::writing::{Stop, write_text};
+use act_board::Board;
+use act_date::Day;
 use act_io::Sink;
 use act_model::{Answer, Close, Item, Line, Names, Run};
 use act_print::{answer_head, answers_head, block_head, item_line, journal_head};
@@ -62,10 +66,54 @@ pub fn write_transcript<K: Sink>(
     let mut line = Vec::new(alloc);
     let count = answer_count(answers);
     let mut kept = no_lines(alloc, names, contracts, count)?;
-    write_journal_head(out, &mut line, items.len())?;
-    write_items(out, &mut line, names, items)?;
-    write_answers_head(out, &mut line, count)?;
+    write_heads(out, &mut line, names, items, count)?;
     write_answer_lists(out, &mut line, names, &mut kept, answers)
+}
+
+/// Writes the journal of a board, and the answers to the asks of its callers, caller after caller, as `write_transcript` does. Its
+/// book tells which of the lines that are kept stay the same from one answer to the next.
+pub(crate) fn write_board<K: Sink>(
+    alloc: Global,
+    out: &mut K,
+    names: &Names,
+    contracts: usize,
+    board: &mut Board,
+    answers: &[Vec<Answer>],
+) -> Result<bool, Stop>
+    requires known { All (λ item. is_known names.now item.step ≡ true) (journal_of board.old) }
+    requires named { All (λ (answer : Reply). All (λ (run : ℕ × Stream). run.0 < length names.now.contracts) answer.runs) (replies_of answers.now) }
+    requires replies { All (IsReplyOn board.old) (replies_of answers.now) }
+    requires few { length (replies_of answers.now) ≤ length (journal_of board.old) }
+    ensures text { Writes result (text_of names.now (journal_of board.old) (map printed_answer (replies_of answers.now)))
+        (K.written out.old) (K.written out.new) }
+    ensures ended { IfOk result (λ ended. ended ≡ list_all ends_well (replies_of answers.now)) }
+    ensures faults { K.faults out.new ≡ faults_after result (K.faults out.old) }
+    ensures board { board.new ≡ board.old }
+{
+    let mut line = Vec::new(alloc);
+    let items = board.journal();
+    let count = answer_count(answers);
+    let mut kept = no_lines(alloc, names, contracts, count)?;
+    write_heads(out, &mut line, names, items, count)?;
+    write_lists_by_cuts(out, &mut line, names, &mut kept, board, answers)
+}
+
+/// Writes a journal, and the line above the answers to its asks, so many.
+fn write_heads<K: Sink>(
+    out: &mut K,
+    line: &mut Vec<u8>,
+    names: &Names,
+    items: &[Item],
+    count: usize,
+) -> Result<(), Stop>
+    requires known { All (λ item. is_known names.now item.step ≡ true) items.now }
+    ensures text { Writes result (journal_head_text (length items.now) ++ flat_map (item_text names.now) items.now ++ answers_head_text count)
+        (K.written out.old) (K.written out.new) }
+    ensures faults { K.faults out.new ≡ faults_after result (K.faults out.old) }
+{
+    write_journal_head(out, line, items.len())?;
+    write_items(out, line, names, items)?;
+    write_answers_head(out, line, count)
 }
 
 /// Writes the line of how many rows were computed.
@@ -228,18 +276,18 @@ fn write_answer_list<K: Sink>(
 }
 
 /// Writes an answer, and answers whether each of its blocks ends in `end`. `kept` has the lines of rows that were written last,
-/// and `known` tells of each contract whether these are known to be its lines here too.
+/// and where a contract has a cut, these are known to be the lines of its rows before it here too, or where that is None of all.
 pub(crate) fn write_answer<K: Sink>(
     out: &mut K,
     line: &mut Vec<u8>,
     names: &Names,
     kept: &mut [RowLines<'_>],
-    known: &[bool],
+    cuts: &[Option<Day>],
     answer: &Answer,
 ) -> Result<bool, Stop>
     requires named { All (λ (run : ℕ × Stream). run.0 < length names.now.contracts) answer.now.runs }
     requires kept { AreWrittenWith names.now kept.old }
-    requires known { AreKnown known.now kept.old answer.now.runs }
+    requires known { AreKnown cuts.now kept.old answer.now.runs }
     ensures text { Writes result (answer_text names.now (printed_answer answer.now)) (K.written out.old) (K.written out.new) }
     ensures ended { IfOk result (λ ended. ended ≡ ends_well answer.now) }
     ensures faults { K.faults out.new ≡ faults_after result (K.faults out.old) }
@@ -247,7 +295,7 @@ pub(crate) fn write_answer<K: Sink>(
     ensures renewed { IfOk result (λ _. AreRenewed answer.now.runs kept.old kept.new) }
 {
     write_answer_head(out, line, answer)?;
-    write_blocks(out, line, names, kept, known, &answer.runs)
+    write_blocks(out, line, names, kept, cuts, &answer.runs)
 }
 
 /// Writes the blocks of contracts with their runs, and answers whether each ends in `end`.
@@ -256,12 +304,12 @@ fn write_blocks<K: Sink>(
     line: &mut Vec<u8>,
     names: &Names,
     kept: &mut [RowLines<'_>],
-    known: &[bool],
+    cuts: &[Option<Day>],
     runs: &[(u32, Arc<Run, Global>)],
 ) -> Result<bool, Stop>
     requires named { All (λ (run : ℕ × Stream). run.0 < length names.now.contracts) (shared_runs runs.now) }
     requires kept { AreWrittenWith names.now kept.old }
-    requires known { AreKnown known.now kept.old (shared_runs runs.now) }
+    requires known { AreKnown cuts.now kept.old (shared_runs runs.now) }
     ensures text { Writes result (runs_text names.now (shared_runs runs.now)) (K.written out.old) (K.written out.new) }
     ensures ended { IfOk result (λ ended. ended ≡ all_end (shared_runs runs.now)) }
     ensures faults { K.faults out.new ≡ faults_after result (K.faults out.old) }
@@ -270,7 +318,7 @@ fn write_blocks<K: Sink>(
 {
     let mut ended = true;
     for run in runs {
-        let ends = write_block(out, line, names, kept, known, run.0, &run.1)?;
+        let ends = write_block(out, line, names, kept, cuts, run.0, &run.1)?;
         ended &= ends;
     }
     Ok(ended)
@@ -282,20 +330,20 @@ fn write_block<K: Sink>(
     line: &mut Vec<u8>,
     names: &Names,
     kept: &mut [RowLines<'_>],
-    known: &[bool],
+    cuts: &[Option<Day>],
     contract: u32,
     run: &Arc<Run, Global>,
 ) -> Result<bool, Stop>
     requires contract { contract < length names.now.contracts }
     requires kept { AreWrittenWith names.now kept.old }
-    requires known { IsKnown known.now kept.old contract (arc_value run.now) }
+    requires known { IsKnown cuts.now kept.old contract (arc_value run.now) }
     ensures text { Writes result (block_text names.now (printed_block (contract, arc_value run.now))) (K.written out.old) (K.written out.new) }
     ensures ended { IfOk result (λ ended. ended ≡ is_end (arc_value run.now).close) }
     ensures faults { K.faults out.new ≡ faults_after result (K.faults out.old) }
     ensures kept { AreWrittenWith names.now kept.new }
-    ensures renewed { IfOk result (λ _. IsRenewed known.now contract (arc_value run.now) kept.old kept.new) }
+    ensures renewed { IfOk result (λ _. IsRenewed contract (arc_value run.now) kept.old kept.new) }
 {
-    write_run(out, line, names, kept, known, contract, run)?;
+    write_run(out, line, names, kept, cuts, contract, run)?;
     Ok(is_end(&run.close))
 }
 
@@ -315,20 +363,20 @@ fn write_run<K: Sink>(
     line: &mut Vec<u8>,
     names: &Names,
     kept: &mut [RowLines<'_>],
-    known: &[bool],
+    cuts: &[Option<Day>],
     contract: u32,
     run: &Arc<Run, Global>,
 ) -> Result<(), Stop>
     requires contract { contract < length names.now.contracts }
     requires kept { AreWrittenWith names.now kept.old }
-    requires known { IsKnown known.now kept.old contract (arc_value run.now) }
+    requires known { IsKnown cuts.now kept.old contract (arc_value run.now) }
     ensures text { Writes result (block_text names.now (printed_block (contract, arc_value run.now))) (K.written out.old) (K.written out.new) }
     ensures faults { K.faults out.new ≡ faults_after result (K.faults out.old) }
     ensures kept { AreWrittenWith names.now kept.new }
-    ensures renewed { OnOk result (IsRenewed known.now contract (arc_value run.now) kept.old kept.new) }
+    ensures renewed { OnOk result (IsRenewed contract (arc_value run.now) kept.old kept.new) }
 {
     write_block_head(out, line, names, contract)?;
-    write_rows(out, names, kept, known, contract, run)?;
+    write_rows(out, names, kept, cuts, contract, run)?;
     write_close(out, line, names, &run.close)
 }
 

@@ -287,7 +287,7 @@ impl Drive {
         let (what, is_right) = match self.board.collect(caller)?.ok()? {
             Collected::Ready(answer) => {
                 let is_right = self.is_answer(&answer, wanted, steps)?
-                    && self.is_unread(answer.version)?;
+                    && self.are_cuts(answer.version)?;
                 self.simulation.note(Noted::Collect(caller))?;
                 ("collect: Ready", is_right)
             }
@@ -297,12 +297,15 @@ impl Drive {
         self.counts.add(what, is_right)
     }
 
-    /// Whether the board tells for each contract whether none of the entries behind a version touches its cone.
-    fn is_unread(&mut self, version: u64) -> Option<bool> {
-        let unread = self.board.unread_since(version)?;
-        let entries = self.simulation.entries(self.simulation.version())?;
-        let behind = entries.get(version as usize..)?;
-        Some(self.expected.are_unread(&unread, behind))
+    /// Whether the board tells for each contract from which day on the entries between a version and the newest touch its cone, in
+    /// either order of the two.
+    fn are_cuts(&mut self, version: u64) -> Option<bool> {
+        let newest = self.simulation.version();
+        let cuts = self.board.cuts_between(version, newest)?;
+        let back = self.board.cuts_between(newest, version)?;
+        let entries = self.simulation.entries(newest)?;
+        let between = entries.get(version as usize..)?;
+        Some(self.expected.are_cuts(&cuts, between) && self.expected.are_cuts(&back, between))
     }
 
     /// Whether an answer is that of the ask, and each of its runs is that of the contract over the entries before the ask.

@@ -4,6 +4,7 @@ ghost use Rattle.act_model.specs.Journal.{is_known};
 ghost use Rattle.act_model.specs.declared.journal.Step.TheVariants as step;
 
 use act_board::{AppendFault, AskFault, Board, Claim, Collected, Done, Task};
+use act_date::Day;
 use act_model::{Asked, Item, Obs};
 use act_num::{NoMemory, Steps};
 use act_portfolio::Portfolio;
@@ -114,15 +115,16 @@ impl Driven {
         Some(self.board.open_asks(caller))
     }
 
-    /// For each contract, whether no entry behind the first ones touches its cone. None where there are fewer entries, or
-    /// memory runs out.
-    pub fn unread_since(&mut self, version: u64) -> Option<Vec<bool>>
+    /// For each contract, the day from which on the entries between two versions touch its cone, or None where none of them does.
+    /// None where there are fewer entries, or memory runs out.
+    pub fn cuts_between(&mut self, one: u64, other: u64) -> Option<Vec<Option<Day>>>
         ensures portfolio { self.new.portfolio ≡ self.old.portfolio }
     {
-        if version > self.board.version() {
+        let version = self.board.version();
+        if one > version || other > version {
             return None;
         }
-        self.board.unread_since(version).ok()
+        self.board.cuts_between(one, other).ok()
     }
 
     /// A caller appends an entry. None where it isn't here.

@@ -2,6 +2,7 @@
 use crate::draws::Entry;
 use crate::driven::{Claimed, Driven};
 use act_board::Collected;
+use act_date::Day;
 use act_model::{Answer, Asked, Obs, Reads, Run};
 use act_num::Steps;
 use act_portfolio::Portfolio;
@@ -88,15 +89,14 @@ impl Expected {
         None
     }
 
-    /// Whether these are, for each contract, whether none of these entries touches its cone.
-    pub fn are_unread(&self, unread: &[bool], entries: &[Entry]) -> bool {
+    /// Whether these are, for each contract, the least day of those of these entries that touch its cone, or None where none does.
+    pub fn are_cuts(&self, cuts: &[Option<Day>], entries: &[Entry]) -> bool {
         let contracts = self.portfolio.terms().len();
-        if unread.len() != contracts {
+        if cuts.len() != contracts {
             return false;
         }
         for contract in 0..contracts {
-            let reads = self.portfolio.reads(contract as u32);
-            if unread[contract] == entries.iter().any(|entry| touches(reads, &entry.says)) {
+            if cuts[contract] != cut_by(self.portfolio.reads(contract as u32), entries) {
                 return false;
             }
         }
@@ -128,6 +128,25 @@ fn touches(reads: &Reads, entry: &Obs) -> bool {
     match entry {
         Obs::Rate { code, .. } => reads.codes.contains(code),
         Obs::Event { contract, .. } => reads.contracts.contains(contract),
+    }
+}
+
+/// The least day of those of some entries that touch what is read.
+fn cut_by(reads: &Reads, entries: &[Entry]) -> Option<Day> {
+    let mut cut = None;
+    for entry in entries {
+        if touches(reads, &entry.says) {
+            let day = day_of(&entry.says);
+            cut = Some(cut.unwrap_or(day).min(day));
+        }
+    }
+    cut
+}
+
+/// The day of an entry.
+fn day_of(entry: &Obs) -> Day {
+    match entry {
+        Obs::Rate { day, .. } | Obs::Event { day, .. } => *day,
     }
 }
 

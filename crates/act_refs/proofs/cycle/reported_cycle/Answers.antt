@@ -7,6 +7,9 @@ use Rattle.act_refs.proofs.Paths.{length-child_lists, no_cycle-outside}
 use Rattle.act_refs.proofs.cycle.reported_cycle.Goals as goal
 use Rattle.act_refs.proofs.cycle.reported_cycle.Goals.{then-not-index+in_ok-found+in_default, else-not-index}
 
+pub peeled_both_ways-requires-clause-turned : goal.peeled_both_ways-requires-clause-turned
+peeled_both_ways-requires-clause-turned c = rw c.deref.ensures.value (c.in_ok-parents.ensures).turned
+
 pub cycle_at-requires-clause-turned : goal.cycle_at-requires-clause-turned
 cycle_at-requires-clause-turned c = rw c.deref-then-not-index.ensures.value (c.in_ok-parents.ensures).turned
 

@@ -5,9 +5,9 @@ use Rattle.act_top.proofs.desk.write_played.Goals as goal
 
 pub returns-in-Ok : goal.returns-in-Ok
 returns-in-Ok g c =
-    runs-whole c.args.job.now c.args.played c.in-Ok.ended _ _ _ _ _ c.requires c.answers_status.ensures (rw c.journal.ensures.journal at c.in-Ok.ensures.ended) (rw c.journal.ensures.journal at c.in-Ok.ensures.text) c.in-Ok.ensures.faults
+    rw c.in-Ok.ensures.board
+    (runs-whole c.args.job.now c.args.played c.in-Ok.ended _ _ _ _ _ c.requires c.answers_status.ensures c.in-Ok.ensures.ended c.in-Ok.ensures.text c.in-Ok.ensures.faults)
 
 pub returns-in-Err : goal.returns-in-Err
 returns-in-Err g c =
-    runs-part c.args.job.now (journal_of c.args.played.board) c.in-Err.stop _ _ _ _ _ _ c.requires.played.interleaved (c.without_board.ensures.status ∙ c.status_of.ensures) c.without_board.ensures.board
-    (rw c.journal.ensures.journal at c.in-Err.ensures.text) c.in-Err.ensures.faults
+    runs-part c.args.job.now (journal_of c.args.played.board) c.in-Err.stop _ _ _ _ _ _ c.requires.played.interleaved (c.without_board.ensures.status ∙ c.status_of.ensures) c.without_board.ensures.board c.in-Err.ensures.text c.in-Err.ensures.faults

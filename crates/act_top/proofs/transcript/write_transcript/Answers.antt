@@ -1,35 +1,17 @@
 use Rattle.act_session.specs.Playing.{replies_of}
 use Rattle.act_top.proofs.Journals.{transcript-parts}
-use Rattle.act_top.proofs.Texts.{part-behind, part-first, then-text, writes-behind, writes-first, writes-none}
+use Rattle.act_top.proofs.Texts.{writes-behind, writes-first, writes-none}
 use Rattle.act_top.proofs.transcript.write_transcript.Goals as goal
 
 pub returns-in_err-kept-clause-text : goal.returns-in_err-kept-clause-text
 returns-in_err-kept-clause-text g c = writes-none c.from_residual.result _ _ c.from_residual.ensures.1
 
-pub returns-in_err-write_journal_head-clause-text : goal.returns-in_err-write_journal_head-clause-text
-returns-in_err-write_journal_head-clause-text g c =
+pub returns-in_err-write_heads-clause-text : goal.returns-in_err-write_heads-clause-text
+returns-in_err-write_heads-clause-text g c =
     rw (transcript-parts c.args.names.now c.args.items.now (replies_of c.args.answers.now))
-    (writes-first c.from_residual-in_err-write_journal_head.result _ _ _ _ _ c.from_residual-in_err-write_journal_head.ensures.1
-    (part-first c.in_err-write_journal_head.field-0.0 _ _ _ _
-    (part-first c.in_err-write_journal_head.field-0.0 _ _ _ _ c.in_err-write_journal_head.ensures.text)))
-
-pub returns-in_err-write_items-clause-text : goal.returns-in_err-write_items-clause-text
-returns-in_err-write_items-clause-text g c =
-    rw (transcript-parts c.args.names.now c.args.items.now (replies_of c.args.answers.now))
-    (writes-first c.from_residual-in_err-write_items.result _ _ _ _ _ c.from_residual-in_err-write_items.ensures.1
-    (part-first c.in_err-write_items.field-0.0 _ _ _ _
-    (part-behind c.in_err-write_items.field-0.0 _ _ _ _ _ c.in_ok-write_journal_head.ensures.text c.in_err-write_items.ensures.text)))
-
-pub returns-in_err-write_answers_head-clause-text : goal.returns-in_err-write_answers_head-clause-text
-returns-in_err-write_answers_head-clause-text g c =
-    rw (transcript-parts c.args.names.now c.args.items.now (replies_of c.args.answers.now))
-    (writes-first c.from_residual-in_err-write_answers_head.result _ _ _ _ _ c.from_residual-in_err-write_answers_head.ensures.1
-    (part-behind c.in_err-write_answers_head.field-0.0 _ _ _ _ _ (then-text _ _ _ _ _ c.in_ok-write_journal_head.ensures.text c.in_ok-write_items.ensures.text)
-    (rw c.answer_count-count.ensures at c.in_err-write_answers_head.ensures.text)))
+    (writes-first c.from_residual-in_err-write_heads.result _ _ _ _ _ c.from_residual-in_err-write_heads.ensures.1 (rw c.answer_count-count.ensures at c.in_err-write_heads.ensures.text))
 
 pub returns-clause-text : goal.returns-clause-text
 returns-clause-text g c =
     rw (transcript-parts c.args.names.now c.args.items.now (replies_of c.args.answers.now))
-    (writes-behind c.write_answer_lists.result _ _ _ _ _
-    (then-text _ _ _ _ _ (then-text _ _ _ _ _ c.in_ok-write_journal_head.ensures.text c.in_ok-write_items.ensures.text) (rw c.answer_count-count.ensures at c.in_ok-write_answers_head.ensures.text))
-    c.write_answer_lists.ensures.text)
+    (writes-behind c.write_answer_lists.result _ _ _ _ _ (rw c.answer_count-count.ensures at c.in_ok-write_heads.ensures.text) c.write_answer_lists.ensures.text)

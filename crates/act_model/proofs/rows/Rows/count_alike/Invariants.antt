@@ -1,11 +1,11 @@
-use Rattle.std.proofs.Common.{◌≡◌, ◌*◌, ◌/◌, ◌-◌, ◌≤◌, take}
+use Rattle.std.proofs.Common.{◌-◌, ◌≤◌, take}
 use Rattle.act_model.specs.Run.{HaveSameCells}
 use Rattle.act_model.proofs.rows.Rows.count_alike.Given as goal
 
--- whole chunks are printed alike
+-- the rows so far are printed alike
 abbrev pub invariant-loop-alike : goal.invariant-loop-alike
 invariant-loop-alike l = record {
-  whole : l.alike ≡ 64 * (l.alike / 64);
+  from : l.from ≤ l.alike;
   within : l.alike ≤ l.limit;
   alike : HaveSameCells (take l.alike l.self) (take l.alike l.other);
 }

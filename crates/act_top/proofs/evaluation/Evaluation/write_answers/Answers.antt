@@ -1,4 +1,4 @@
-use Rattle.std.proofs.Common.{None, Some, Bool, IsSomeAnd, slice_get, ◌≡◌, ◌<◌, ◌≤◌, ◌+◌, ◌∷◌, [], ℕ, List, true, drop, take, refl, get_or, length, sym, ap, subst, ◌∙◌, arith, rules}
+use Rattle.std.proofs.Common.{None, ◌≡◌, ◌<◌, ◌≤◌, ◌+◌, ◌∷◌, [], ℕ, List, true, drop, take, refl, get_or, length, sym, ap, subst, ◌∙◌, arith, rules}
 use Rattle.std.specs.List.{All}
 use Rattle.std.specs.Prelude.{◌&&◌}
 use Rattle.act_board.specs.History.{History, and_then, asks_by, entries_of, version_of}
@@ -10,13 +10,11 @@ use Rattle.act_model.specs.declared.asks.Asking.{Asking}
 use Rattle.act_model.specs.declared.observed.Obs.{Obs}
 use Rattle.act_portfolio.specs.Reading.{Accepted}
 use Rattle.act_profile.specs.Answers.{answer_to}
-use Rattle.act_profile.specs.Run.{run_of}
 use Rattle.act_model.specs.Journal.{book_of, is_known}
 use Rattle.act_model.specs.declared.journal.Line.{Line}
 use Rattle.act_model.specs.declared.journal.Step.{Step}
 use Rattle.act_model.specs.declared.journal.Step.TheVariants as step
-use Rattle.std.proofs.lemmas.List.{take_all}
-use Rattle.std.proofs.lemmas.Option.{IfSome_then}
+use Rattle.std.proofs.lemmas.List.{take_all, take_at}
 use Rattle.std.proofs.lemmas.List.Elements.{All-append, All-drop, All-take}
 use Rattle.act_text.specs.Kept.{AreWrittenWith, Lines}
 use Rattle.act_top.specs.Driven.{AreLatest, IsDriven, IsQuiet}
@@ -25,9 +23,10 @@ use Rattle.act_top.specs.Ready.{Evaluation}
 use Rattle.act_top.specs.Work.{ask_work, asks_work}
 use Rattle.act_top.proofs.Answering.{Answering, answering-all, answering-none, answers-are}
 use Rattle.act_refs.proofs.Turning.{written_back}
-use Rattle.act_top.specs.Known.{AreKnown, AreRenewed}
-use Rattle.act_top.proofs.Known.{AreWrittenAt, answer-known, answer-written, first-entries, written-later}
-use Rattle.act_top.proofs.Stepping.{answered-part, answering-appended, answering-asked, append-asks, append-version, book-begins, driven-append, driven-ask, driven-first, driven-line, has-quota, known-same, reply-named, stopped-part, work-all}
+use Rattle.act_top.specs.Known.{AreKeptAt, IsReplyOn}
+use Rattle.act_top.proofs.Known.{kept-later}
+use Rattle.act_top.proofs.Replies.{reply-on}
+use Rattle.act_top.proofs.Stepping.{answered-part, answering-appended, answering-asked, append-asks, append-entries, book-begins, driven-append, driven-ask, driven-first, driven-line, has-quota, known-same, reply-named, stopped-part, work-all}
 use Rattle.act_top.proofs.Texts.{drop-next, drop-past, writes-none, writes-part}
 use Rattle.act_top.proofs.Working.{work-push}
 use Rattle.act_top.proofs.evaluation.Evaluation.write_answers.Goals as goal
@@ -92,14 +91,16 @@ loop-step-preserved g c =
             faults = rw w.out-is c.loop-step.invariant.faults;
             kept = rw w.kept-is c.loop-step.invariant.kept;
             at = rw (w.kept-is, w.at-is)
-                (written-later c.loop-step.at (version_of c.loop-step.board) (version_of c.match-step.board) (AreWrittenAt e.portfolio.contracts e.portfolio.names (book_of all) c.loop-step.kept.items)
-                (omega (arith, ap version_of is, append-version e.portfolio c.loop-step.board driven.quiet driven.closed entry)) c.loop-step.invariant.at);
+                (subst (λ (h : History). AreKeptAt h c.loop-step.kept.items c.loop-step.at) (sym is)
+                (kept-later c.loop-step.board after c.loop-step.kept.items c.loop-step.at refl
+                (ap (take (version_of c.loop-step.board)) (append-entries e.portfolio c.loop-step.board driven.quiet driven.closed entry) ∙ take_at (entries_of c.loop-step.board) (entry ∷ []) (version_of c.loop-step.board) refl)
+                c.loop-step.invariant.at));
           }
       | in-Ask+in_ok-answer-in-Ask+in_ok-ends-in-Ask w ↦
           let asked = w.in-Ask.asked in
           let told = w.in_ok-answer-in-Ask.ensures in
           let after = w.answer.new.board in
-          let board-is : c.match-step.board ≡ after = w.board-is ∙ w.unread_since-known.ensures.same in
+          let board-is : c.match-step.board ≡ after = w.board-is ∙ w.in_ok-ends-in-Ask.ensures.board in
           let of : w.deref-in-Ask.result.now ≡ e.portfolio = search rules in
           let with_names : Lines → Type 0 = λ lines. lines.names ≡ e.script.names in
           let driven = driven-line e.portfolio all _ left c.step-item.result _ c.loop-step.board here w.in-Ask.is c.loop-step.invariant.driven in
@@ -112,11 +113,11 @@ loop-step-preserved g c =
           of told.ticked in
           let same : e.script.names.contracts ≡ e.portfolio.names.contracts = ap (λ (v : Evaluation). v.script.names.contracts) (sym c.self.view_is) ∙ (c.self.invariant.lines.contracts ∙ ap (λ (v : Evaluation). v.portfolio.names.contracts) c.self.view_is) in
           let written = answering-asked e.portfolio e.script.names e.script.lines c.loop-step.board c.step-item.result left c.loop-step.ended (g.K.Sink.written c.args.out.now) (g.K.Sink.written c.loop-step.out) now asked driven same w.in-Ask.is after w.in_ok-answer-in-Ask.answer
-          w.in_ok-ends-in-Ask.ends _ reply-is told.asked (rw w.names-in-Ask.ensures.names at w.in_ok-ends-in-Ask.ensures.text) w.in_ok-ends-in-Ask.ensures.ended in
+          w.in_ok-ends-in-Ask.ends _ reply-is told.asked (rw w.names-names.ensures.names at w.in_ok-ends-in-Ask.ensures.text) w.in_ok-ends-in-Ask.ensures.ended in
           record {
             driven = subst (IsDriven e.portfolio all (items_of left)) (sym board-is) (driven-ask e.portfolio all (items_of left) c.loop-step.board after asked driven quiet told.closed told.asked latest);
             answering = rw (w.out-is, w.ended-is)
-                (subst (λ (h : History). Answering e.portfolio e.script.names (book_of all) e.script.lines left (1 + length (asks_by h 1)) (version_of h) (c.loop-step.ended && w.in_ok-ends-in-Ask.ends) (g.K.Sink.written c.args.out.now) (g.K.Sink.written w.write_answer-written.new.out)) (sym board-is) written);
+                (subst (λ (h : History). Answering e.portfolio e.script.names (book_of all) e.script.lines left (1 + length (asks_by h 1)) (version_of h) (c.loop-step.ended && w.in_ok-ends-in-Ask.ends) (g.K.Sink.written c.args.out.now) (g.K.Sink.written w.write_by_cuts-written.new.out)) (sym board-is) written);
             ticks = omega (
               arith,
               w.steps-is,
@@ -128,22 +129,12 @@ loop-step-preserved g c =
             );
             counted = omega (arith, w.steps-is, w.work-is, c.loop-step.invariant.counted, told.counted);
             faults = rw w.out-is (w.in_ok-ends-in-Ask.ensures.faults ∙ c.loop-step.invariant.faults);
-            kept = rw w.kept-is (All-take with_names _ _ (All-append with_names w.write_answer-written.new.kept _ (rw w.names-in-Ask.ensures.names at w.in_ok-ends-in-Ask.ensures.kept) (All-drop with_names _ c.loop-step.kept.items c.loop-step.invariant.kept)));
+            kept = rw w.kept-is (All-take with_names _ _ (All-append with_names w.write_by_cuts-written.new.kept _ (rw w.names-names.ensures.names at w.in_ok-ends-in-Ask.ensures.kept) (All-drop with_names _ c.loop-step.kept.items c.loop-step.invariant.kept)));
             at =
-                let new = w.write_answer-written.new.kept in
+                let new = w.write_by_cuts-written.new.kept in
                 let old = c.loop-step.kept.items in
-                let entries = entries_of c.loop-step.board in
-                let begins = book-begins e.portfolio all (items_of left) c.loop-step.board (record { caller = 1; step = step.Ask asked } ∷ items_of left) driven.items in
-                let whole : take (version_of c.loop-step.board) entries ≡ entries = take_all (version_of c.loop-step.board) entries (omega arith) in
-                let version : w.version.result ≡ version_of c.loop-step.board = w.version.ensures ∙ (ap version_of w.unread_since-known.ensures.same ∙ ap length told.asked.entries) in
-                let renewed = subst (λ (r : Reply). AreRenewed r.runs old new) reply-is
-                (subst (λ (lines : List Lines). AreRenewed w.in_ok-answer-in-Ask.answer.runs lines new) w.deref_mut.ensures.value w.in_ok-ends-in-Ask.ensures.renewed) in
-                rw (w.kept-is, w.at-is, written_back c.loop-step.kept.len new old renewed.count (sym w.deref_mut.ensures.len ∙ ap length w.deref_mut.ensures.value))
-                (IfSome_then w.written_at-at.result w.written_at-at.ensures (λ v is. (
-                  omega (arith, is.0, version, ap version_of board-is, ap length told.asked.entries),
-                  subst (AreWrittenAt e.portfolio.contracts e.portfolio.names (book_of all) new) (sym (is.0 ∙ version))
-                      (answer-written e.portfolio.contracts e.portfolio.names entries (book_of all) ask old new is.1 (whole ∙ sym begins) renewed),
-                )));
+                rw (w.kept-is, w.at-is, written_back c.loop-step.kept.len new old (w.in_ok-ends-in-Ask.ensures.count ∙ ap length w.deref_mut.ensures.value) (sym w.deref_mut.ensures.len ∙ ap length w.deref_mut.ensures.value))
+                (subst (λ (h : History). AreKeptAt h new w.write_by_cuts-written.new.at) (sym board-is) w.in_ok-ends-in-Ask.ensures.at);
           }
     ]
 
@@ -159,8 +150,8 @@ returns-in_err-answer-in-Ask-clause-text g c =
     rw (answers-are e.portfolio e.script.names (book_of (items_of e.script.lines)) e.script.lines refl)
     (writes-part c.from_residual-in_err-answer-in-Ask.result _ _ _ _ c.from_residual-in_err-answer-in-Ask.ensures.1 (stopped-part e.portfolio e.script.names (book_of (items_of e.script.lines)) e.script.lines _ _ _ _ _ _ c.loop-step.invariant.answering))
 
-pub write_answer-written-requires-clause-named : goal.write_answer-written-requires-clause-named
-write_answer-written-requires-clause-named g c =
+pub write_by_cuts-written-requires-clause-named : goal.write_by_cuts-written-requires-clause-named
+write_by_cuts-written-requires-clause-named g c =
     let e = c.args.self.now in
     let i = c.loop-step.step-index in
     let all = items_of e.script.lines in
@@ -178,46 +169,41 @@ write_answer-written-requires-clause-named g c =
     let this : is_known e.script.names (step.Ask asked) ≡ true =
     subst (λ (t : Step). is_known e.script.names t ≡ true) c.in-Ask.is (subst (λ (line : Line). is_known e.script.names line.step ≡ true) (sym item_is) (all-known i c.step-item.result within)) in
     let known : is_known e.portfolio.names (step.Ask asked) ≡ true = sym (known-same e.script.names e.portfolio.names asked same) ∙ this in
-    subst (λ (ids : List (List ℕ)). All (λ (run : ℕ × Stream). run.0 < length ids) c.in_ok-answer-in-Ask.answer.runs) (sym c.names-in-Ask.ensures.contracts)
+    subst (λ (ids : List (List ℕ)). All (λ (run : ℕ × Stream). run.0 < length ids) c.in_ok-answer-in-Ask.answer.runs) (sym c.names-names.ensures.contracts)
     (subst (λ (r : Reply). All (λ (run : ℕ × Stream). run.0 < length e.portfolio.names.contracts) r.runs) (sym reply-is) (reply-named e.portfolio.contracts e.portfolio.names (entries_of c.loop-step.board) ask known))
 
-pub write_answer-written-requires-clause-known : goal.write_answer-written-requires-clause-known
-write_answer-written-requires-clause-known g c =
+pub write_by_cuts-written-requires-clause-reply : goal.write_by_cuts-written-requires-clause-reply
+write_by_cuts-written-requires-clause-reply g c =
+    let e = c.args.self.now in
+    let of : c.deref-in-Ask.result.now ≡ e.portfolio = search rules in
+    let told = c.in_ok-answer-in-Ask.ensures in
+    let before = c.loop-step.board in
+    let after = c.answer.new.board in
+    let quiet = subst (λ (p : Accepted). IsQuiet p after) of told.quiet in
+    let ask : Asking = record { caller = 1; number = 1 + length (asks_by before 1); version = version_of before; asked = c.in-Ask.asked } in
+    let reply-is = subst (λ (p : Accepted). c.in_ok-answer-in-Ask.answer ≡ answer_to p.contracts p.names (entries_of before) ask) of told.answer in
+    subst (IsReplyOn after)
+    (ap (λ (p : Accepted). answer_to p.contracts e.portfolio.names (entries_of after) ask) quiet.portfolio
+    ∙ (ap (λ (entries : List Obs). answer_to e.portfolio.contracts e.portfolio.names entries ask) told.asked.entries ∙ sym reply-is))
+    (reply-on after e.portfolio.names ask (omega (arith, ap length told.asked.entries)))
+
+pub write_by_cuts-written-requires-clause-at : goal.write_by_cuts-written-requires-clause-at
+write_by_cuts-written-requires-clause-at g c =
     let e = c.args.self.now in
     let i = c.loop-step.step-index in
-    let all = items_of e.script.lines in
     let left = drop (i + 1) e.script.lines in
     let lines_are : c.deref-step-items.result.now ≡ e.script.lines = search rules in
     let within : i < length e.script.lines = omega (arith, c.loop-step-test.true, ap length lines_are) in
     let here = drop-next e.script.lines i c.step-item.result within (c.step-item.is ∙ ap (λ (ls : List Line). get_or ls i c.step-item.result) lines_are) in
-    let asked = c.in-Ask.asked in
     let of : c.deref-in-Ask.result.now ≡ e.portfolio = search rules in
-    let ask : Asking = record { caller = 1; number = 1 + length (asks_by c.loop-step.board 1); version = version_of c.loop-step.board; asked = asked } in
-    let reply-is = subst (λ (p : Accepted). c.in_ok-answer-in-Ask.answer ≡ answer_to p.contracts p.names (entries_of c.loop-step.board) ask) of c.in_ok-answer-in-Ask.ensures.answer in
-    let same : e.script.names.contracts ≡ e.portfolio.names.contracts = ap (λ (v : Evaluation). v.script.names.contracts) (sym c.self.view_is) ∙ (c.self.invariant.lines.contracts ∙ ap (λ (v : Evaluation). v.portfolio.names.contracts) c.self.view_is) in
-    let item_is = c.step-item.is ∙ ap (λ (ls : List Line). get_or ls i c.step-item.result) lines_are in
-    let all-known = subst (λ (v : Evaluation). All (λ (line : Line). is_known v.script.names line.step ≡ true) v.script.lines) c.self.view_is c.self.invariant.lines.known in
-    let this : is_known e.script.names (step.Ask asked) ≡ true =
-    subst (λ (t : Step). is_known e.script.names t ≡ true) c.in-Ask.is (subst (λ (line : Line). is_known e.script.names line.step ≡ true) (sym item_is) (all-known i c.step-item.result within)) in
-    let named : is_known e.portfolio.names (step.Ask asked) ≡ true = sym (known-same e.script.names e.portfolio.names asked same) ∙ this in
     let told = c.in_ok-answer-in-Ask.ensures in
+    let before = c.loop-step.board in
     let after = c.answer.new.board in
-    let driven = driven-line e.portfolio all _ left c.step-item.result _ c.loop-step.board here c.in-Ask.is c.loop-step.invariant.driven in
+    let driven = driven-line e.portfolio (items_of e.script.lines) _ left c.step-item.result _ before here c.in-Ask.is c.loop-step.invariant.driven in
     let quiet = subst (λ (p : Accepted). IsQuiet p after) of told.quiet in
-    let entries = entries_of c.loop-step.board in
-    let known = c.unread_since-known.result.items in
-    let kept = c.loop-step.kept.items in
-    let reply = answer_to e.portfolio.contracts e.portfolio.names entries ask in
-    let begins = book-begins e.portfolio all (items_of left) c.loop-step.board (record { caller = 1; step = step.Ask asked } ∷ items_of left) driven.items in
-    let whole : take (version_of c.loop-step.board) entries ≡ entries = take_all (version_of c.loop-step.board) entries (omega arith) in
-    let runs = subst (λ (p : Accepted). (d : ℕ) → slice_get known d ≡ Some true → IsSomeAnd c.loop-step.at (λ v. run_of p.contracts (take v entries) d ≡ run_of p.contracts entries d)) quiet.portfolio
-    (subst (λ (es : List Obs). (d : ℕ) → slice_get known d ≡ Some true → IsSomeAnd c.loop-step.at (λ v. run_of after.portfolio.contracts (take v es) d ≡ run_of after.portfolio.contracts es d)) told.asked.entries
-    c.unread_since-known.ensures.runs) in
-    let are = answer-known e.portfolio.contracts e.portfolio.names entries (book_of all) ask known kept c.loop-step.at named whole
-    (λ v le. ap (λ (es : List Obs). take v es) (sym begins) ∙ first-entries v (version_of c.loop-step.board) (book_of all) le) c.loop-step.invariant.at runs in
-    subst (λ (r : Reply). AreKnown c.deref-in-Ask-2.result.now c.deref_mut.result.now r.runs) (sym reply-is)
-    (subst (λ (flags : List Bool). AreKnown flags c.deref_mut.result.now reply.runs) (sym c.deref-in-Ask-2.ensures.value)
-    (subst (λ (lines : List Lines). AreKnown known lines reply.runs) (sym c.deref_mut.ensures.value) are))
+    let goes_on : take (version_of before) (entries_of after) ≡ entries_of before = ap (take (version_of before)) told.asked.entries ∙ take_all (version_of before) (entries_of before) (omega arith) in
+    subst (λ (lines : List Lines). AreKeptAt after lines c.loop-step.at) (sym c.deref_mut.ensures.value)
+    (kept-later before after c.loop-step.kept.items c.loop-step.at (quiet.portfolio ∙ sym driven.quiet.portfolio) goes_on c.loop-step.invariant.at)
 
 pub returns-in_err-ends-in-Ask-clause-text : goal.returns-in_err-ends-in-Ask-clause-text
 returns-in_err-ends-in-Ask-clause-text g c =
@@ -236,7 +222,7 @@ returns-in_err-ends-in-Ask-clause-text g c =
     let same : e.script.names.contracts ≡ e.portfolio.names.contracts = ap (λ (v : Evaluation). v.script.names.contracts) (sym c.self.view_is) ∙ (c.self.invariant.lines.contracts ∙ ap (λ (v : Evaluation). v.portfolio.names.contracts) c.self.view_is) in
     let driven = driven-line e.portfolio all _ left c.step-item.result _ c.loop-step.board here c.in-Ask.is c.loop-step.invariant.driven in
     let part = answered-part e.portfolio e.script.names e.script.lines c.loop-step.board c.step-item.result left c.loop-step.ended (g.K.Sink.written c.args.out.now) (g.K.Sink.written c.loop-step.out) now asked driven same c.in-Ask.is
-    c.in_err-ends-in-Ask.field-0.0 c.in_ok-answer-in-Ask.answer _ reply-is (rw c.names-in-Ask.ensures.names at c.in_err-ends-in-Ask.ensures.text) in
+    c.in_err-ends-in-Ask.field-0.0 c.in_ok-answer-in-Ask.answer _ reply-is (rw c.names-names.ensures.names at c.in_err-ends-in-Ask.ensures.text) in
     rw (answers-are e.portfolio e.script.names (book_of all) e.script.lines refl) (writes-part c.from_residual-in_err-ends-in-Ask.result _ _ _ _ c.from_residual-in_err-ends-in-Ask.ensures.1 part)
 
 pub returns-clause-text : goal.returns-clause-text

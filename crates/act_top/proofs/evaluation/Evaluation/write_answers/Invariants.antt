@@ -1,12 +1,12 @@
-use Rattle.std.proofs.Common.{◌≡◌, ◌+◌, ◌≤◌, [], IfSome, drop, length}
+use Rattle.std.proofs.Common.{◌≡◌, ◌+◌, [], drop, length}
 use Rattle.act_board.specs.History.{asks_by, version_of}
 use Rattle.act_model.specs.Journal.{book_of}
 use Rattle.act_text.specs.Kept.{AreWrittenWith}
 use Rattle.act_top.specs.Driven.{IsDriven}
+use Rattle.act_top.specs.Known.{AreKeptAt}
 use Rattle.act_top.specs.Output.{items_of}
 use Rattle.act_top.specs.Work.{asks_work}
 use Rattle.act_top.proofs.Answering.{Answering}
-use Rattle.act_top.proofs.Known.{AreWrittenAt}
 use Rattle.act_top.proofs.evaluation.Evaluation.write_answers.Given as goal
 
 -- the steps from this one on are still to be made, and the answers to their asks are still to be written
@@ -18,5 +18,5 @@ invariant-loop-step g l = record {
   counted : l.work + l.fn.steps ≡ l.fn.work + l.steps;
   faults : g.K.Sink.faults l.out ≡ g.K.Sink.faults l.fn.out;
   kept : AreWrittenWith l.self.script.names l.kept.items;
-  at : IfSome l.at (λ v. (v ≤ version_of l.board) × AreWrittenAt l.self.portfolio.contracts l.self.portfolio.names (book_of (items_of l.self.script.lines)) l.kept.items v);
+  at : AreKeptAt l.board l.kept.items l.at;
 }
