@@ -12,6 +12,9 @@ use act_num::{Factor, Fixed, rnd};
 /// The units of the factor 1.
 const ONE_IN_UNITS: i128 = 1_000_000_000_000;
 
+/// The greatest number in range.
+const LARGEST: u128 = i128::MAX as u128;
+
 /// What a pass over the periods does with the products.
 #[derive(Clone, Copy)]
 enum Change {
@@ -126,14 +129,27 @@ fn raised(number: i128, product: i128) -> Option<i128>
     if product < 0 {
         return None;
     }
-    let sum = number.checked_add(product)?;
-    (sum != i128::MIN).then_some(sum)
+    if number < 0 {
+        return in_range(number + product);
+    }
+    let sum = number as u128 + product as u128;
+    if sum <= LARGEST {
+        Some(sum as i128)
+    } else {
+        None
+    }
+}
+
+/// The number, where it is in range.
+fn in_range(number: i128) -> Option<i128>
+    ensures { result ≡ number_in_range number }
+{
+    (number != i128::MIN).then_some(number)
 }
 
 /// The difference, or None where it is out of range.
 fn difference(a: i128, b: i128) -> Option<i128>
     ensures { result ≡ number_in_range (a -ℤ b) }
 {
-    let difference = a.checked_sub(b)?;
-    (difference != i128::MIN).then_some(difference)
+    in_range(a.checked_sub(b)?)
 }

@@ -138,6 +138,7 @@ pub fn advance<O: Observed, L: Ledger>(
     match family_of(&terms.kind) {
         Family::Loan => act_loan::advance(terms, plan, state, event, seen, steps),
         Family::Amortizing => act_amort::advance(terms, plan, state, event, seen, steps),
+        Family::Swap => act_swap::advance(terms, plan, state, event, children, seen, steps),
         _ => advance_by_step(terms, plan, state, event, children, seen, steps),
     }
 }

@@ -1,9 +1,9 @@
 -- Cycles, counted from an anchor. ACTUS cycles; the range is this profile's own.
-use Rattle.std.specs.Prelude.{ℕ, ◌+◌, ◌-◌, ◌*◌, ◌/◌, ◌%◌, min, nat_le, if◌then◌else◌, ℤ, pos, ◌+ℤ◌, ◌<ℤ◌, Option, Some, None, ⊤}
+use Rattle.std.specs.Prelude.{◌≡◌, ℕ, ◌+◌, ◌-◌, ◌*◌, ◌/◌, ◌%◌, min, nat_le, if◌then◌else◌, ℤ, pos, ◌+ℤ◌, ◌<ℤ◌, Option, Some, None, ⊤}
 use Rattle.act_date.specs.declared.cycle.Cycle.{Cycle}
 use Rattle.act_date.specs.declared.cycle.Unit.{Unit}
 use Rattle.act_date.specs.declared.cycle.Unit.TheVariants as unit
-use Rattle.act_date.specs.Civil.{Civil, day_in_range, civil_of, day_number, month_length}
+use Rattle.act_date.specs.Civil.{Civil, IsDateOf, IsDay, day_in_range, civil_of, day_number, month_length}
 
 -- what a cycle's units come to: days, or months
 pub data Span : Type 0 where
@@ -24,6 +24,13 @@ abbrev pub months_later : Civil → ℕ → Civil
 months_later date n =
     let month = 12 * date.year + (date.month - 1) + n in
     record { year = month / 12; month = month % 12 + 1; day = min date.day (month_length (month / 12) (month % 12 + 1)) }
+
+-- the months from the year 0 to that of the day's date, and its day of the month
+pub record IsAnchor (day : ℤ) (months day_of_month : ℕ) : Type 0 where
+  pub in_range : IsDay day
+  pub date : IsDateOf day (civil_of day)
+  pub months_are : months ≡ 12 * (civil_of day).year + ((civil_of day).month - 1)
+  pub day_is : day_of_month ≡ (civil_of day).day
 
 -- the day number of a date, where its year is at most 2299
 abbrev pub day_number_in_range : Civil → Option ℤ

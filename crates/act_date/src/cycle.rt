@@ -1,9 +1,11 @@
 //! Cycles.
 ghost use Rattle.std.specs.Prelude.{◌≡◌, ℕ, ◌^◌, ◌<◌};
+ghost use Rattle.act_date.specs.Civil.{IsDay};
 ghost use Rattle.act_date.specs.Cycle.{ComesAfter, plus_cycles, day_after, days, months, span_of};
 
 use crate::{Day, civil};
 use jiff_core::civil::Date;
+use std::marker::Model;
 
 /// The length of each period of a schedule, and what becomes of a last period that isn't a whole cycle.
 #[derive(Clone, Copy, PartialEq, Eq)]
@@ -72,21 +74,92 @@ pub fn add_cycles(day: Day, cycle: Cycle, k: u32) -> Option<Day>
     ensures value { result ≡ plus_cycles day cycle k }
     ensures later { (m : ℕ) → k < m → 0 < cycle.count → ComesAfter (plus_cycles day cycle m) result }
 {
-    add_units(day, cycle.unit, u64::from(cycle.count) * u64::from(k))
+    Anchor::at(day).add_cycles(cycle, k)
 }
 
-/// The day so many units later, or None past 2299.
-fn add_units(day: Day, unit: Unit, count: u64) -> Option<Day>
-    requires { count < 2 ^ 48 }
-    ensures { result ≡ day_after day (span_of unit count) }
-{
-    match unit {
-        Unit::D => add_days(day, count),
-        Unit::W => add_days(day, 7 * count),
-        Unit::M => add_months(day, count),
-        Unit::Q => add_months(day, 3 * count),
-        Unit::H => add_months(day, 6 * count),
-        Unit::Y => add_months(day, 12 * count),
+/// A day from which cycles are counted, with its civil date: where many days are counted from one, its date is worked out
+/// once.
+#[derive(Drop)]
+pub struct Anchor {
+    day: Day,
+    months: u32,
+    day_of_month: u8,
+}
+
+impl Model for Anchor {
+    ghost use Rattle.std.specs.Prelude.{ℤ};
+    ghost use Rattle.act_date.specs.Cycle.{IsAnchor};
+
+    ghost Value = { ℤ };
+
+    ghost view = { λ a. a.day };
+
+    ghost invariant = { λ a. IsAnchor a.day a.months a.day_of_month };
+}
+
+impl Anchor {
+    /// The day, as one from which cycles are counted.
+    #[inline]
+    pub fn at(day: Day) -> Anchor
+        ensures { result ≡ day }
+    {
+        let (year, month, day_of_month) = civil(day);
+        let months = 12 * year as u32 + (month as u32 - 1);
+        Anchor {
+            day,
+            months,
+            day_of_month,
+        }
+    }
+
+    /// The day itself.
+    #[inline]
+    pub fn day(&self) -> Day
+        ensures value { result ≡ self.now }
+        ensures in_range { IsDay self.now }
+    {
+        self.day
+    }
+
+    /// The day `k` cycles later, as the function `add_cycles` answers it.
+    #[tactic(auto, unfolding(crate::specs::Cycle::plus_cycles))]
+    pub fn add_cycles(&self, cycle: Cycle, k: u32) -> Option<Day>
+        ensures { result ≡ plus_cycles self.now cycle k }
+    {
+        self.add_units(cycle.unit, u64::from(cycle.count) * u64::from(k))
+    }
+
+    /// The day so many units later, or None past 2299.
+    #[inline]
+    fn add_units(&self, unit: Unit, count: u64) -> Option<Day>
+        requires { count < 2 ^ 48 }
+        ensures { result ≡ day_after self.now (span_of unit count) }
+    {
+        match unit {
+            Unit::D => add_days(self.day, count),
+            Unit::W => add_days(self.day, 7 * count),
+            Unit::M => self.add_months(count),
+            Unit::Q => self.add_months(3 * count),
+            Unit::H => self.add_months(6 * count),
+            Unit::Y => self.add_months(12 * count),
+        }
+    }
+
+    /// The same day of the month so many months later, or the last of a shorter month, or None past 2299.
+    fn add_months(&self, count: u64) -> Option<Day>
+        ensures { result ≡ day_after self.now (months count) }
+    {
+        let first = self.months;
+        if count > MOST_MONTHS {
+            return None;
+        }
+        let months = first + count as u32;
+        let later = Date::constrain(
+            (months / 12) as i16,
+            (months % 12 + 1) as u8,
+            self.day_of_month,
+        );
+        Day::from_number(i64::from(later.to_unix_epoch_day()))
     }
 }
 
@@ -98,17 +171,4 @@ fn add_days(day: Day, count: u64) -> Option<Day>
         return None;
     }
     Day::from_number(i64::from(day.number()) + count as i64)
-}
-
-/// The same day of the month so many months later, or the last of a shorter month, or None past 2299.
-fn add_months(day: Day, count: u64) -> Option<Day>
-    ensures { result ≡ day_after day (months count) }
-{
-    let (year, month, day_of_month) = civil(day);
-    if count > MOST_MONTHS {
-        return None;
-    }
-    let months = 12 * year as u32 + (month as u32 - 1) + count as u32;
-    let later = Date::constrain((months / 12) as i16, (months % 12 + 1) as u8, day_of_month);
-    Day::from_number(i64::from(later.to_unix_epoch_day()))
 }

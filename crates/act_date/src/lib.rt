@@ -9,7 +9,7 @@ mod day_count;
 mod text;
 
 pub use calendar::{Calendar, Convention, is_business};
-pub use cycle::{Cycle, CycleFault, MonthRule, Stub, Unit, add_cycles};
+pub use cycle::{Anchor, Cycle, CycleFault, MonthRule, Stub, Unit, add_cycles};
 pub use cycle_text::{parse_cycle, parse_period};
 pub use day::{DateFault, Day, civil, month_end, weekday};
 pub use day_count::{DayCount, Frac, year_frac};

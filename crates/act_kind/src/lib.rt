@@ -15,5 +15,5 @@ pub use dates::{
 pub use order::{counting, is_unpaid, order_law, put_in_order, retain_counting};
 pub use planned::{Planned, events_by_type, shifting, unshifted};
 pub use sign::{opposite, signed};
-pub use table::{Payment, Table, advance, take_step};
+pub use table::{Payment, Table, advance, take_step, with_state};
 pub use trade::{first_state, later_day, pass, trade_payoff, trade_plan};

@@ -74,8 +74,16 @@ pub fn take_step<T: Table, O: Observed, L: Ledger>(
         Takes result (step_by_line terms.now plan.now (O.entries seen.now) children state.now event.now) steps.old steps.new }
 {
     let mut next = *state;
-    match advance(terms, plan, table, &mut next, event, seen, steps) {
-        Ok(payoff) => Ok((payoff, next)),
+    let taken = advance(terms, plan, table, &mut next, event, seen, steps);
+    with_state(taken, next)
+}
+
+/// What an event pays, with the state that a step in place left; or why it stopped.
+pub fn with_state(taken: Result<Fixed, Stop>, state: State) -> Result<(Fixed, State), Stop>
+    ensures { result ≡ with_state state taken }
+{
+    match taken {
+        Ok(payoff) => Ok((payoff, state)),
         Err(stop) => Err(stop),
     }
 }
@@ -84,6 +92,9 @@ pub fn take_step<T: Table, O: Observed, L: Ledger>(
 /// settlement factor before the others, and then what accrues, what is paid and the change of the state. An event before
 /// a purchase pays nothing, and reads nothing for it. It ticks once; but where it stops it doesn't tick, and the state is
 /// of no use.
+///
+/// It isn't inlined: the compiler would take the state apart, and put it together again for each event.
+#[inline(never)]
 pub fn advance<T: Table, O: Observed, L: Ledger>(
     terms: &Terms,
     plan: &Plan,

@@ -52,12 +52,13 @@ impl Chunk {
         })
     }
 
-    /// The first rows, so many, copied with what they share.
-    pub(crate) fn first(&self, alloc: Global, count: usize) -> Result<Chunk, NoMemory>
+    /// The first rows, so many, copied with what they share, and room for `room` rows.
+    pub(crate) fn first(&self, alloc: Global, count: usize, room: usize) -> Result<Chunk, NoMemory>
         requires { count ≤ length self.now }
         ensures { IfOk result (λ chunk. chunk ≡ take count self.now) }
     {
-        let rows = self.rows[..count].to_vec(alloc)?;
+        let mut rows = Vec::with_capacity(alloc, room)?;
+        rows.extend_from_slice(&self.rows[..count])?;
         let shared = self.shared.needed(alloc, &rows)?;
         Ok(Chunk { rows, shared })
     }

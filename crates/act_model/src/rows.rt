@@ -26,6 +26,8 @@ pub struct Rows {
     full: Vec<Arc<Chunk, Global>>,
     /// The rows behind them, at most 64.
     last: Chunk,
+    /// For how many rows in all there is room made, as far as the next chunk.
+    room: usize,
 }
 
 impl Model for Rows {
@@ -49,29 +51,32 @@ impl Rows {
         Rows {
             full: Vec::new(alloc),
             last: Chunk::new(alloc),
+            room: 0,
         }
     }
 
-    /// No rows, and room for so many, as far as the first chunk.
-    pub fn with_capacity(alloc: Global, count: usize) -> Result<Rows, NoMemory>
+    /// No rows, and room for so many, chunk by chunk.
+    pub fn with_capacity(alloc: Global, room: usize) -> Result<Rows, NoMemory>
         ensures { IfOk result (λ rows. rows ≡ []) }
     {
-        let last = Chunk::with_capacity(alloc, count.min(CHUNK))?;
+        let last = Chunk::with_capacity(alloc, room_behind(room, 0))?;
         Ok(Rows {
             full: Vec::new(alloc),
             last,
+            room,
         })
     }
 
-    /// The first rows, so many. It shares full chunks, and copies the rows behind them.
-    pub fn first(&self, alloc: Global, count: usize) -> Result<Rows, NoMemory>
+    /// The first rows, so many, and room for `room` rows in all. It shares full chunks, and copies the rows behind them.
+    pub fn first(&self, alloc: Global, count: usize, room: usize) -> Result<Rows, NoMemory>
         requires { count ≤ length self.now }
         ensures { IfOk result (λ rows. rows ≡ take count self.now) }
     {
         let chunks = (count / CHUNK).min(self.full.len());
         let full = shared(alloc, &self.full[..chunks])?;
-        let last = behind(&self.full, &self.last, chunks).first(alloc, count - chunks * CHUNK)?;
-        Ok(Rows { full, last })
+        let next = behind(&self.full, &self.last, chunks);
+        let last = next.first(alloc, count - chunks * CHUNK, room_behind(room, chunks))?;
+        Ok(Rows { full, last, room })
     }
 
     /// Adds a row behind the others, by its head and its state. Where memory runs out, the rows are as before.
@@ -80,7 +85,7 @@ impl Rows {
         ensures unchanged { IfErr result (λ _. self.new ≡ self.old) }
     {
         if self.last.count() == CHUNK {
-            close_chunk(&mut self.full, &mut self.last)?;
+            close_chunk(&mut self.full, &mut self.last, self.room)?;
         }
         self.last.push(head, state)
     }
@@ -159,6 +164,11 @@ fn behind<'a>(full: &'a [Arc<Chunk, Global>], last: &'a Chunk, chunks: usize) ->
     }
 }
 
+/// The room of the chunk behind so many full ones, where there is to be room for so many rows in all.
+fn room_behind(room: usize, chunks: usize) -> usize {
+    room.saturating_sub(chunks.saturating_mul(CHUNK)).min(CHUNK)
+}
+
 /// The same chunks once more, shared.
 fn shared(alloc: Global, chunks: &[Arc<Chunk, Global>]) -> Result<Vec<Arc<Chunk, Global>>, NoMemory>
     ensures { IfOk result (λ same. map arc_value same.items ≡ map arc_value chunks.now) }
@@ -170,8 +180,12 @@ fn shared(alloc: Global, chunks: &[Arc<Chunk, Global>]) -> Result<Vec<Arc<Chunk,
     Ok(same)
 }
 
-/// Makes the last rows a full chunk. Where memory runs out, they stay.
-fn close_chunk(full: &mut Vec<Arc<Chunk, Global>>, last: &mut Chunk) -> Result<(), NoMemory>
+/// Makes the last rows a full chunk. There is to be room for `room` rows in all. Where memory runs out, they stay.
+fn close_chunk(
+    full: &mut Vec<Arc<Chunk, Global>>,
+    last: &mut Chunk,
+    room: usize,
+) -> Result<(), NoMemory>
     requires long { length last.old ≡ 64 }
     requires chunks { AreChunks (map arc_value full.old.items) last.old }
     ensures chunks { AreChunks (map arc_value full.new.items) last.new }
@@ -183,7 +197,7 @@ fn close_chunk(full: &mut Vec<Arc<Chunk, Global>>, last: &mut Chunk) -> Result<(
     }
     let alloc = *full.allocator();
     full.reserve(1)?;
-    let next = Chunk::with_capacity(alloc, CHUNK)?;
+    let next = Chunk::with_capacity(alloc, room_behind(room, full.len() + 1))?;
     match Arc::new(alloc, mem::replace(last, next)) {
         Ok(chunk) => {
             let Ok(()) = full.push(chunk) else {

@@ -369,8 +369,9 @@ fn place_numbers(list: &mut Vec<Numbers>, head: &RowHead, state: &State) -> Resu
     if let Some(short) = Short::of(head, state) {
         return Ok(Placed { long: 0, short });
     }
-    let long = numbered(list.len() + 1)?;
-    added(list, Numbers::of(head, state))?;
+    let count = list.len();
+    let long = numbered(count + 1)?;
+    added(list, Numbers::of(head, state), more_room(count))?;
     Ok(Placed {
         long,
         short: Short::NONE,
@@ -387,7 +388,7 @@ fn place_rest(rests: &mut Vec<Rest>, state: &State) -> Result<u8, NoMemory>
     if count > 0 && rests[count - 1].is_of(state) {
         return numbered(count - 1);
     }
-    added(rests, Rest::of(state))
+    added(rests, Rest::of(state), count.max(1))
 }
 
 /// The place of a state's bases, which are added unless they are the last ones.
@@ -400,7 +401,7 @@ fn place_bases(list: &mut Vec<Bases>, state: &State) -> Result<u8, NoMemory>
     if count > 0 && list[count - 1].are_of(state) {
         return numbered(count - 1);
     }
-    added(list, Bases::of(state))
+    added(list, Bases::of(state), more_room(count))
 }
 
 /// The place of a level, which is added unless it is the last one.
@@ -413,25 +414,36 @@ fn place_level(levels: &mut Vec<Level>, level: &Level) -> Result<u8, NoMemory>
     if count > 0 && levels[count - 1].is(level) {
         return numbered(count - 1);
     }
-    added(levels, *level)
+    added(levels, *level, more_room(count))
 }
 
-/// Adds one to a list, and gives its place. Of the first there is mostly no second, so it has room alone. Where memory runs out,
-/// the list is as before.
+/// Adds one to a list, and gives its place. A list that is full gets room for `more`. Where memory runs out, the list is as before.
 #[inline(never)]
-fn added<T: Copy>(list: &mut Vec<T>, one: T) -> Result<u8, NoMemory>
+fn added<T: Copy>(list: &mut Vec<T>, one: T, more: usize) -> Result<u8, NoMemory>
+    requires { 1 ≤ more }
     ensures there { IfOk result (λ place. slice_get list.new.items place ≡ Some one) }
     ensures added { OnOk result (list.new.items ≡ list.old.items ++ one ∷ []) }
     ensures unchanged { OnErr result (list.new.items ≡ list.old.items) }
 {
-    let place = numbered(list.len())?;
-    if list.is_empty() {
-        list.reserve_exact(1)?;
-    } else {
-        list.reserve(1)?;
+    let count = list.len();
+    let place = numbered(count)?;
+    if count == list.capacity() {
+        list.reserve_exact(more)?;
     }
     list.push_reserved(one);
     Ok(place)
+}
+
+/// For how many more a list of small parts gets room where it is full. Of the first there is mostly no second, so it has room
+/// alone; behind it there is room for 16, and then for all of a chunk.
+fn more_room(count: usize) -> usize
+    ensures { 1 ≤ result }
+{
+    match count {
+        0 => 1,
+        1 => 15,
+        _ => 48,
+    }
 }
 
 /// A place as a number of 8 bits. The rows of a chunk are so few that they need no more.

@@ -1,5 +1,7 @@
 pub mod DigitValues
+pub mod Estimates
 pub mod Forms
+pub mod Fractions
 pub mod Halves
 pub mod Limits
 pub mod Nearest

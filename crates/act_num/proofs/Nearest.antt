@@ -45,7 +45,7 @@ rnd_pos n d m h = record {
   even_at_tie = at_tie n (m * d) d (m % 2) h.even_above h.even_below;
 }
 
-neg-mul : (m d : ℕ) → neg_ℤ (pos m) *ℤ pos d ≡ neg_ℤ (pos (m * d))
+pub neg-mul : (m d : ℕ) → neg_ℤ (pos m) *ℤ pos d ≡ neg_ℤ (pos (m * d))
 neg-mul zero d = let none : 0 * d ≡ 0 = omega arith in ap pos none ∙ sym (ap (λ (k : ℕ). neg_ℤ (pos k)) none)
 neg-mul (suc m) d = refl
 

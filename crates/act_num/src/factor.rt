@@ -1,15 +1,18 @@
 //! Scaling factors.
-ghost use Rattle.std.specs.Prelude.{◌≡◌, pos, ◌≤ℤ◌, unsigned_abs};
+ghost use Rattle.std.specs.Prelude.{◌≡◌, pos, ◌≤ℤ◌, unsigned_abs, IfSome, Some};
 ghost use Rattle.act_num.specs.Factor.{one_plus_of, times_of};
 ghost use Rattle.act_num.specs.Number.{InRange};
 
 use crate::Fixed;
 use crate::fixed::{product, sum};
-use crate::rounding::{rnd, rnd_by_ones};
+use crate::rounding::{nearest_factor, rnd, rnd_by_ones};
 use std::marker::Model;
 
 /// The units of the factor 1.
 const ONE_IN_UNITS: i128 = 1_000_000_000_000;
+
+/// The first number past 63 bits.
+const PAST_63: i128 = 1 << 63;
 
 /// How many units of a factor make one unit of a rate.
 const UNITS_IN_RATE_UNIT: u64 = 1_000;
@@ -54,6 +57,19 @@ impl Factor {
     pub fn times(self, b: Factor) -> Option<Factor>
         ensures { result ≡ times_of self b }
     {
+        match estimated_product(self.units, b.units) {
+            Some(units) => Some(Factor {
+                units: i128::from(units),
+            }),
+            None => self.rounded_product(b),
+        }
+    }
+
+    /// The product, as `times` answers it, worked out by divisions.
+    #[inline(never)]
+    fn rounded_product(self, b: Factor) -> Option<Factor>
+        ensures { result ≡ times_of self b }
+    {
         let product = product(self.units, b.units)?;
         let units = rnd_by_ones(product, UNITS_IN_RATE_UNIT);
         Some(Factor { units })
@@ -65,5 +81,17 @@ impl Factor {
         ensures in_range { InRange result }
     {
         self.units
+    }
+}
+
+/// The units of the product of two factors from 0 on, as far as they are words and an estimate shows it.
+#[inline]
+fn estimated_product(a: i128, b: i128) -> Option<u64>
+    ensures { IfSome result (λ units. Some (pos units) ≡ times_of a b) }
+{
+    if 0 <= a && a < PAST_63 && 0 <= b && b < PAST_63 {
+        nearest_factor(u128::from(a as u64) * u128::from(b as u64))
+    } else {
+        None
     }
 }

@@ -3,7 +3,7 @@ ghost use Rattle.std.specs.Prelude.{◌≡◌, ◌≤◌, ◌*◌, ◌^◌, ℤ,
 ghost use Rattle.std.specs.Int.{int_max, int_min};
 ghost use Rattle.act_num.specs.Number.{InRange, largest, number_in_range, one, rnd, add_of, sub_of, mul_of, mul_frac_of, ratio_of, clip_of};
 
-use crate::rounding::{rnd, rnd_by_ones};
+use crate::rounding::{nearest_estimated, rnd, rnd_by_ones};
 use std::cmp::Ordering;
 use std::marker::Model;
 
@@ -97,7 +97,22 @@ impl Fixed {
 
     /// The product with the fraction `num/den`, rounded once, or None where a product of the units, from
     /// left to right, is out of range.
+    #[inline(never)]
     pub fn mul_frac(self, b: Fixed, num: i64, den: i64) -> Option<Fixed>
+        requires num_in { pos 0 ≤ℤ num }
+        requires den_above { pos 1 ≤ℤ den }
+        requires den_in { den ≤ℤ pos 133_590 }
+        ensures { result ≡ mul_frac_of self b num (unsigned_abs den) }
+    {
+        match estimated_frac(self.units, b.units, num, den as u64) {
+            Some(units) => Some(Fixed { units }),
+            None => self.rounded_frac(b, num, den),
+        }
+    }
+
+    /// The product with the fraction, as `mul_frac` answers it, worked out by divisions.
+    #[inline(never)]
+    fn rounded_frac(self, b: Fixed, num: i64, den: i64) -> Option<Fixed>
         requires num_in { pos 0 ≤ℤ num }
         requires den_above { pos 1 ≤ℤ den }
         requires den_in { den ≤ℤ pos 133_590 }
@@ -195,6 +210,42 @@ fn by_ones(units: i128, den: u64) -> Fixed
 {
     Fixed {
         units: rnd_by_ones(units, den),
+    }
+}
+
+/// The units of the product of two words with the fraction `num/den`, where an estimate shows them.
+#[inline]
+fn estimated_frac(a: i128, b: i128, num: i64, den: u64) -> Option<i128>
+    requires num_in { pos 0 ≤ℤ num }
+    requires den_above { 1 ≤ den }
+    requires den_in { den ≤ 133_590 }
+    ensures value { IfSome result (λ units. Some units ≡ mul_frac_of a b num den) }
+    ensures in_range { IfSome result InRange }
+{
+    if !is_word(a) || !is_word(b) {
+        return None;
+    }
+    let (a, b) = (a as i64, b as i64);
+    let product = product_of_words(a.unsigned_abs(), b.unsigned_abs(), num as u64)?;
+    let nearest = i128::from(nearest_estimated(product, den)?);
+    Some(if (a < 0) == (b < 0) {
+        nearest
+    } else {
+        -nearest
+    })
+}
+
+/// The product of two words and a short count, where that is in range.
+#[inline]
+fn product_of_words(a: u64, b: u64, count: u64) -> Option<u128>
+    ensures value { IfSome result (λ product. product ≡ a * b * count) }
+    ensures in_range { IfSome result (λ product. product ≤ largest) }
+{
+    let product = u128::from(a) * u128::from(b);
+    if product < PAST_95 as u128 && count < PAST_31 as u64 {
+        Some(product * u128::from(count))
+    } else {
+        None
     }
 }
 

@@ -9,8 +9,8 @@ use crate::graph::children_at;
 use std::alloc::{AllocError, Global};
 
 /// Which contracts are on no cycle, as far as that follows from their children being on none, or from those that
-/// refer to them being on none. In the end it leaves out only those that lie between cycles. It takes time in
-/// proportion to the contracts and references.
+/// refer to them being on none. It is meant to leave out only those that are on a cycle or between two, in time in
+/// proportion to the contracts and references; no clause says so.
 pub fn peeled_both_ways(
     alloc: Global,
     children: &[Vec<u32>],
@@ -24,18 +24,18 @@ pub fn peeled_both_ways(
     ensures count { IfOk result (λ peeled. length peeled.items ≡ length children.now) }
     ensures peeled { IfOk result (λ peeled. ArePeeled (child_lists children.now) peeled.items) }
 {
-    let mut lead_nowhere = peeled(alloc, children, parents)?;
+    let mut on_no_cycle = peeled(alloc, children, parents)?;
     let led_from_nowhere = peeled(alloc, parents, children)?;
     'contracts: for contract in 0..children.len() {
         if led_from_nowhere[contract] {
-            lead_nowhere[contract] = true;
+            on_no_cycle[contract] = true;
         }
     }
-    Ok(lead_nowhere)
+    Ok(on_no_cycle)
 }
 
-/// Which contracts are on no cycle, as far as that follows from their children being on none. In the end it leaves
-/// out only those that lead to a cycle. It takes time in proportion to the contracts and references.
+/// Which contracts are on no cycle, as far as that follows from their children being on none. It is meant to leave
+/// out only those that lead to a cycle.
 #[tactic(auto, using(crate::proofs::Peeling::peeling_start))]
 fn peeled(
     alloc: Global,

@@ -14,7 +14,7 @@ use std::alloc::Global;
 use std::sync::Arc;
 use std::sync::ledger::Ledger;
 
-/// The first rows of a list, so many. Where these are none, it is a new list with room for `room` rows.
+/// The first rows of a list, so many, with room for `room` rows in all.
 pub(crate) fn first_rows(
     alloc: Global,
     rows: &Rows,
@@ -27,7 +27,7 @@ pub(crate) fn first_rows(
     if count == 0 {
         Rows::with_capacity(alloc, room)
     } else {
-        rows.first(alloc, count)
+        rows.first(alloc, count, room)
     }
 }
 

@@ -157,7 +157,7 @@ fn copied(alloc: Global, run: &Run) -> Result<Run, NoMemory>
     ensures { IfOk result (λ copy. copy ≡ run.now) }
 {
     let count = run.rows.count();
-    let rows = run.rows.first(alloc, count)?;
+    let rows = run.rows.first(alloc, count, count)?;
     Ok(Run {
         rows,
         close: run.close,

@@ -1,16 +1,19 @@
 //! The dates of a cycle, counted from an anchor.
 ghost use Rattle.std.specs.Prelude.{◌≡◌};
+ghost use Rattle.act_date.specs.Civil.{IsDay};
 ghost use Rattle.act_sched.specs.Schedule.{cycle_date, is_in_months, keeps_month_ends};
 
-use act_date::{Cycle, Day, MonthRule, Unit, add_cycles, month_end};
+use act_date::{Anchor, Cycle, Day, MonthRule, Unit, month_end};
 
 /// The day so many cycles after the anchor, moved by the rule, or None past 2299.
 #[tactic(auto, unfolding(crate::specs::Schedule::cycle_date))]
-pub(crate) fn cycle_date(anchor: Day, cycle: Cycle, rule: MonthRule, k: u32) -> Option<Day>
-    ensures { result ≡ cycle_date anchor cycle rule k }
+pub(crate) fn cycle_date(anchor: &Anchor, cycle: Cycle, rule: MonthRule, k: u32) -> Option<Day>
+    ensures value { result ≡ cycle_date anchor.now cycle rule k }
+    ensures in_range { IsDay anchor.now }
 {
-    let date = add_cycles(anchor, cycle, k)?;
-    if keeps_month_ends(rule, anchor, cycle.unit) {
+    let day = anchor.day();
+    let date = anchor.add_cycles(cycle, k)?;
+    if keeps_month_ends(rule, day, cycle.unit) {
         Some(month_end(date))
     } else {
         Some(date)

@@ -6,7 +6,7 @@ ghost use Rattle.act_sched.specs.Schedule.{IsScheduleDate, LeadsOn, dates_before
 ghost use Rattle.act_sched.specs.declared.schedule.SchedFault.TheVariants.{NoMemory};
 
 use crate::cycle_dates::cycle_date;
-use act_date::{Cycle, Day, MonthRule, Stub};
+use act_date::{Anchor, Cycle, Day, MonthRule, Stub};
 use std::alloc::{AllocFailed, Global};
 
 /// Why there is no list of a schedule's dates.
@@ -103,9 +103,10 @@ impl Schedule {
             MOST_DATES < length (later_dates after (dates_of self)) }
         ensures within_limit { IfOk result (λ dates. length dates.items ≤ MOST_DATES) }
     {
+        let anchor = self.counted_from();
         let mut dates = Vec::new(alloc);
         'dates: for place in 0..MOST_DAYS {
-            match self.date_at(place) {
+            match self.date_at(&anchor, place) {
                 Some(date) => push_after(&mut dates, &after, date)?,
                 None => return Ok(dates),
             }
@@ -119,9 +120,10 @@ impl Schedule {
         requires { LeadsOn self.cycle }
         ensures { result ≡ latest_in until after first (dates_of self) }
     {
+        let anchor = self.counted_from();
         let mut latest = first;
         'dates: for place in 0..MOST_DAYS {
-            match self.date_at(place) {
+            match self.date_at(&anchor, place) {
                 Some(date) => latest = later_date(latest, &after, until, date),
                 None => return latest,
             }
@@ -135,34 +137,46 @@ impl Schedule {
         ensures count { result ≡ length (dates_but_for self.end (dates_of self)) }
         ensures few { result ≤ 146_096 }
     {
+        let anchor = self.counted_from();
         'dates: for count in 0..MOST_DAYS - 1 {
-            if self.date_at(count + 1).is_none() {
+            if self.date_at(&anchor, count + 1).is_none() {
                 return count;
             }
         }
         MOST_DAYS - 1
     }
 
+    /// The anchor, from which the dates of the cycle are counted.
+    fn counted_from(&self) -> Option<Anchor>
+        ensures { result ≡ self.now.anchor }
+    {
+        match self.anchor {
+            Some(day) => Some(Anchor::at(day)),
+            None => None,
+        }
+    }
+
     /// The date at a place from 0, or None past the last.
     #[tactic(auto, unfolding(crate::specs::Schedule::schedule_dates))]
-    fn date_at(&self, place: u32) -> Option<Day>
+    fn date_at(&self, anchor: &Option<Anchor>, place: u32) -> Option<Day>
+        requires anchor { anchor.now ≡ self.now.anchor }
         requires cycle { LeadsOn self.now.cycle }
         requires place { place ≤ 146_096 }
         ensures { result ≡ slice_get (dates_of self.now) place }
     {
-        match self.anchor {
-            Some(anchor) if anchor <= self.end => self.date_from(anchor, place),
+        match anchor {
+            Some(anchor) if anchor.day() <= self.end => self.date_from(anchor, place),
             _ => None,
         }
     }
 
     /// The date at a place, with an anchor that isn't after the end.
     #[tactic(auto, using(crate::proofs::ByPlace::inside, crate::proofs::ByPlace::behind, crate::proofs::ByPlace::past_one_more, crate::proofs::ByPlace::outside))]
-    fn date_from(&self, anchor: Day, place: u32) -> Option<Day>
+    fn date_from(&self, anchor: &Anchor, place: u32) -> Option<Day>
         requires cycle { LeadsOn self.now.cycle }
         requires place { place ≤ 146_096 }
         ensures { result
-            ≡ slice_get (earlier_dates anchor self.now.cycle self.now.end self.now.rule ++ self.now.end ∷ []) place }
+            ≡ slice_get (earlier_dates anchor.now self.now.cycle self.now.end self.now.rule ++ self.now.end ∷ []) place }
     {
         if let Some(date) = self.earlier_date(anchor, place) {
             return Some(date);
@@ -174,22 +188,22 @@ impl Schedule {
     }
 
     /// The date at a place among those before the end.
-    fn earlier_date(&self, anchor: Day, place: u32) -> Option<Day>
+    fn earlier_date(&self, anchor: &Anchor, place: u32) -> Option<Day>
         requires cycle { LeadsOn self.now.cycle }
         requires place { place ≤ 146_096 }
-        ensures { result ≡ slice_get (earlier_dates anchor self.now.cycle self.now.end self.now.rule) place }
+        ensures { result ≡ slice_get (earlier_dates anchor.now self.now.cycle self.now.end self.now.rule) place }
     {
         match self.cycle {
             Some(cycle) => self.cycle_date_kept(anchor, cycle, place),
-            None => (place == 0 && anchor < self.end).then_some(anchor),
+            None => (place == 0 && anchor.day() < self.end).then_some(anchor.day()),
         }
     }
 
     /// The date of the cycle at a place, where it is before the end and isn't left out by a long stub.
-    fn cycle_date_kept(&self, anchor: Day, cycle: Cycle, place: u32) -> Option<Day>
+    fn cycle_date_kept(&self, anchor: &Anchor, cycle: Cycle, place: u32) -> Option<Day>
         requires cycle { 1 ≤ cycle.count }
         requires place { place ≤ 146_096 }
-        ensures { result ≡ slice_get (earlier_dates anchor (Some cycle) self.now.end self.now.rule) place }
+        ensures { result ≡ slice_get (earlier_dates anchor.now (Some cycle) self.now.end self.now.rule) place }
     {
         let date = self.cycle_date_before(anchor, cycle, place)?;
         if place == 0 || cycle.stub == Stub::Short {
@@ -205,9 +219,9 @@ impl Schedule {
     }
 
     /// The date of the cycle at a place, where it is before the end.
-    fn cycle_date_before(&self, anchor: Day, cycle: Cycle, place: u32) -> Option<Day>
+    fn cycle_date_before(&self, anchor: &Anchor, cycle: Cycle, place: u32) -> Option<Day>
         requires { 1 ≤ cycle.count }
-        ensures { result ≡ slice_get (dates_before anchor cycle self.now.end self.now.rule) place }
+        ensures { result ≡ slice_get (dates_before anchor.now cycle self.now.end self.now.rule) place }
     {
         if_before(self.end, cycle_date(anchor, cycle, self.rule, place))
     }

@@ -1,7 +1,7 @@
 //! The calls of SWPPV, SWAPS and CAPFL.
 ghost use Rattle.std.specs.Prelude.{◌≡◌, ◌≢◌, ◌++◌, true, map, option_map, Ok, Err, IfOk};
 ghost use Rattle.std.specs.Arc.{arc_value};
-ghost use Rattle.act_kind.specs.Takes.{Takes};
+ghost use Rattle.act_kind.specs.Takes.{Takes, with_state};
 ghost use Rattle.act_model.specs.Kind.{type_of};
 ghost use Rattle.act_profile.specs.Events.{events_of_children};
 ghost use Rattle.act_profile.specs.Plan.{plan_of};
@@ -14,7 +14,7 @@ use crate::limits::add_capfl_events;
 use crate::netting::add_swaps_events;
 use crate::plain_swap::PlainSwap;
 use crate::swaps_table::{SwapsTable, swaps_row};
-use act_kind::{first_state, take_step, trade_plan};
+use act_kind::{first_state, trade_plan, with_state};
 use act_model::{
     Common, Event, EventType, Kind, Observed, Plan, PlanFault, Row, Run, State, Stop, Terms,
 };
@@ -76,18 +76,38 @@ pub fn step<O: Observed, L: Ledger>(
     ensures { Takes result
         (step_of terms.now plan.now (O.entries seen.now) (map arc_value children.now) state.now event.now) steps.old steps.new }
 {
+    let mut next = *state;
+    let taken = advance(terms, plan, &mut next, event, children, seen, steps);
+    with_state(taken, next)
+}
+
+/// Takes the step of an event of a SWPPV, a SWAPS or a CAPFL, as [`step`] does, in place: the state becomes the one after the
+/// event, and what the event pays is answered. Where the run stops the state is of no use.
+pub fn advance<O: Observed, L: Ledger>(
+    terms: &Terms,
+    plan: &Plan,
+    state: &mut State,
+    event: &Event,
+    children: &[Arc<Run, Global>],
+    seen: &O,
+    steps: &mut Steps<L>,
+) -> Result<Fixed, Stop>
+    requires { is_swap_or_cap (type_of terms.now.kind) ≡ true }
+    ensures { Takes (with_state state.new result)
+        (step_of terms.now plan.now (O.entries seen.now) (map arc_value children.now) state.old event.now) steps.old steps.new }
+{
     match &terms.kind {
         Kind::SWPPV(swap) => {
             let table = PlainSwap::new(&terms.common, swap);
-            take_step(terms, plan, &table, state, event, seen, steps)
+            act_kind::advance(terms, plan, &table, state, event, seen, steps)
         }
         Kind::SWAPS(swaps) => {
             let table = SwapsTable::new(&terms.common, swaps, children);
-            take_step(terms, plan, &table, state, event, seen, steps)
+            act_kind::advance(terms, plan, &table, state, event, seen, steps)
         }
         Kind::CAPFL(_) => {
             let table = CapTable::new(&terms.common, children);
-            take_step(terms, plan, &table, state, event, seen, steps)
+            act_kind::advance(terms, plan, &table, state, event, seen, steps)
         }
         _ => unreachable!(),
     }

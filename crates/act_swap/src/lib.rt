@@ -12,4 +12,4 @@ mod plain_swap;
 mod plain_table;
 mod swaps_table;
 
-pub use calls::{currency_of, schedule, start, step, with_rows_of_children};
+pub use calls::{advance, currency_of, schedule, start, step, with_rows_of_children};

@@ -4,6 +4,7 @@
 mod kept;
 mod line;
 mod names;
+mod number;
 mod row;
 
 pub use kept::RowLines;

@@ -1,9 +1,10 @@
 //! A line of text, put together word by word.
-ghost use Rattle.std.specs.Prelude.{◌≡◌, ◌+◌, ◌<◌, ◌≤◌, [], ◌++◌, drop, length, true, OnOk, OnErr, codes};
+ghost use Rattle.std.specs.Prelude.{◌≡◌, ◌+◌, ◌<◌, ◌≤◌, [], ◌++◌, drop, length, take, true, OnOk, OnErr, codes};
 ghost use Rattle.act_num.specs.Decimal.{printed};
 ghost use Rattle.act_date.specs.Text.{date_text};
 ghost use Rattle.act_model.specs.Name.{is_name};
 
+use crate::number::{NumberText, TEXT_ROOM};
 use act_date::Day;
 use act_num::{Fixed, NoMemory};
 use std::marker::Model;
@@ -115,6 +116,29 @@ impl TextLine {
     {
         self.push_bytes(b" ");
         self.end = number.write_at(&mut self.bytes, self.end);
+    }
+
+    /// Adds a space and a number whose text is known, 42 bytes at most. All of the text's room is copied, and what is behind the text
+    /// counts for nothing: that is quicker than to copy only so many bytes.
+    pub(crate) fn push_known_number(&mut self, number: &NumberText)
+        requires { length self.old + 1 + TEXT_ROOM ≤ MOST_LINE }
+        ensures text { self.new ≡ self.old ++ codes " " ++ printed number.now }
+        ensures len { length self.new ≤ length self.old + 42 }
+    {
+        self.push_bytes(b" ");
+        self.push_first(number.bytes(), number.count());
+    }
+
+    /// Adds the first of some bytes, so many.
+    #[inline(always)]
+    fn push_first(&mut self, bytes: &[u8; TEXT_ROOM], count: usize)
+        requires room { length self.old + TEXT_ROOM ≤ MOST_LINE }
+        requires within { count ≤ TEXT_ROOM }
+        ensures { self.new ≡ self.old ++ take count bytes.now }
+    {
+        let end = self.end + TEXT_ROOM;
+        self.bytes[self.end..end].copy_from_slice(bytes);
+        self.end += count;
     }
 
     /// Adds the line and its line feed to `out`. Where memory runs out, `out` is as before.

@@ -6,6 +6,7 @@ ghost use Rattle.act_text.specs.Again.{other_cells, other_cells_text};
 ghost use Rattle.act_text.specs.Lines.{close_text, line_of, row_text, type_text};
 
 use crate::line::{MOST_LINE, TextLine};
+use crate::number::NumberText;
 use act_date::Day;
 use act_model::{Close, EventType, Names, Row};
 use act_num::{Fixed, NoMemory};
@@ -54,6 +55,9 @@ pub struct RowPrinter<'a> {
     names: &'a Names,
     line: TextLine,
     last: Option<OtherCells>,
+    /// Texts of the notional and the rate, kept from row to row: most rows have those of the row before.
+    notional: NumberText,
+    rate: NumberText,
 }
 
 impl<'a> Model for RowPrinter<'a> {
@@ -77,6 +81,8 @@ impl<'a> RowPrinter<'a> {
             names,
             line: TextLine::new(),
             last: None,
+            notional: NumberText::of(Fixed::ZERO),
+            rate: NumberText::of(Fixed::ZERO),
         }
     }
 
@@ -101,7 +107,16 @@ impl<'a> RowPrinter<'a> {
         ensures names { self.new.names ≡ self.old.names }
         ensures bytes { self.new.bytes ≡ date_text day ++ other_cells_text self.old.names cells.now }
     {
-        put_line(self.names, day, cells, &mut self.line);
+        self.notional.renew(cells.notional);
+        self.rate.renew(cells.rate);
+        put_line(
+            self.names,
+            day,
+            cells,
+            &self.notional,
+            &self.rate,
+            &mut self.line,
+        );
         self.last = Some(*cells);
     }
 
@@ -136,7 +151,16 @@ pub fn row_line(names: &Names, row: &Row, out: &mut Vec<u8>) -> Result<(), NoMem
 }
 
 /// Puts a line together in place of the one before: a day, and what is printed behind it.
-fn put_line(names: &Names, day: Day, cells: &OtherCells, line: &mut TextLine)
+fn put_line(
+    names: &Names,
+    day: Day,
+    cells: &OtherCells,
+    notional: &NumberText,
+    rate: &NumberText,
+    line: &mut TextLine,
+)
+    requires notional { notional.now ≡ cells.now.notional }
+    requires rate { rate.now ≡ cells.now.rate }
     ensures { line.new ≡ date_text day ++ other_cells_text names.now cells.now }
 {
     line.clear();
@@ -144,8 +168,8 @@ fn put_line(names: &Names, day: Day, cells: &OtherCells, line: &mut TextLine)
     push_type(line, cells.kind);
     push_name(line, names.currency(cells.currency));
     line.push_number(cells.payoff);
-    line.push_number(cells.notional);
-    line.push_number(cells.rate);
+    line.push_known_number(notional);
+    line.push_known_number(rate);
     line.push_number(cells.interest);
     line.push_bytes(b"\n");
 }

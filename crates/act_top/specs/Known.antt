@@ -16,7 +16,7 @@ pub record IsKnownTo (cut : Option ℤ) (rows : List Row) (run : Stream) : Type 
   pub same : take (length (kept_of run cut).rows) rows ≡ take (length (kept_of run cut).rows) run.rows
   pub whole : cut ≡ None → rows ≡ run.rows
 
--- where a contract has a cut, the rows of its run stand by their days, and those of its lines that are kept are known to it
+-- where it is told of a contract which rows are kept, the rows of its run stand by their days, and those of its lines that are kept are known to it
 abbrev pub IsKnown : List (Option ℤ) → List Lines → ℕ → Stream → Type 0
 IsKnown cuts kept c run = (cut : Option ℤ) → slice_get cuts c ≡ Some cut
     → AreInDayOrder run.rows × ((lines : Lines) → slice_get kept c ≡ Some lines → IsKnownTo cut lines.rows run)
@@ -52,6 +52,6 @@ AreOfAll count runs = (c : ℕ) → c < count → (run : ℕ × Stream) × (slic
 abbrev pub AreWrittenAt : History → List Lines → ℕ → Type 0
 AreWrittenAt board kept version = (c : ℕ) (lines : Lines) → slice_get kept c ≡ Some lines → lines.rows ≡ (run_of board.portfolio.contracts (take version (entries_of board)) c).rows
 
--- the version at which they were written is known
+-- where a version is given, it is one of the book's, and they were written at it
 abbrev pub AreKeptAt : History → List Lines → Option ℕ → Type 0
 AreKeptAt board kept at = IfSome at (λ version. (version ≤ version_of board) × AreWrittenAt board kept version)

@@ -35,8 +35,8 @@ pub(crate) fn no_lines<'a>(
     Ok(kept)
 }
 
-/// Writes the lines of a contract's rows, and keeps them where there is a place for the contract. Of a contract that has a cut,
-/// the kept lines are known to be those of its rows before it, here and in what calls it, and where that is None of all its rows.
+/// Writes the lines of a contract's rows, and keeps them where there is a place for the contract. Where `cuts` tells of a contract,
+/// the kept lines are known to be those of its rows before the cut, here and in what calls it, and where that is None of all.
 pub(crate) fn write_rows<K: Sink>(
     out: &mut K,
     names: &Names,

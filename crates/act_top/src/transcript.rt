@@ -276,7 +276,8 @@ fn write_answer_list<K: Sink>(
 }
 
 /// Writes an answer, and answers whether each of its blocks ends in `end`. `kept` has the lines of rows that were written last,
-/// and where a contract has a cut, these are known to be the lines of its rows before it here too, or where that is None of all.
+/// and where `cuts` tells of a contract, these are known to be the lines of its rows before the cut here too, or of all where
+/// that is None.
 pub(crate) fn write_answer<K: Sink>(
     out: &mut K,
     line: &mut Vec<u8>,

@@ -55,7 +55,7 @@ fn begun(alloc: Global, draws: &mut Draws, other: &Pair) -> Option<Pair> {
     let all = other.rows.count();
     let bound = u32::try_from(all).ok()?.saturating_add(1);
     let kept = (draws.below(bound) as usize).min(all);
-    let rows = other.rows.first(alloc, kept).ok()?;
+    let rows = other.rows.first(alloc, kept, kept).ok()?;
     let plain = other.plain.get(..kept)?.to_vec(alloc).ok()?;
     Some(Pair { rows, plain })
 }

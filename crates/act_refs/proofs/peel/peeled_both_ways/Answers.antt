@@ -6,7 +6,7 @@ use Rattle.act_refs.proofs.peel.peeled_both_ways.Goals as goal
 use Rattle.act_refs.proofs.peel.peeled_both_ways.Goals.{then-index, else-index}
 
 pub contracts-init : goal.contracts-init
-contracts-init c = ((c.in_ok-lead_nowhere.ensures).count, (c.in_ok-lead_nowhere.ensures).peeled)
+contracts-init c = ((c.in_ok-on_no_cycle.ensures).count, (c.in_ok-on_no_cycle.ensures).peeled)
 
 pub contracts-preserved : goal.contracts-preserved
 contracts-preserved c =
@@ -18,8 +18,8 @@ contracts-preserved c =
       | then-index w ↦
           let marked = get_or_default marks c.contracts.contract false c.index.result.now within ∙ sym c.index.ensures ∙ w.if-index.true in
           let none = marked_turned graph turned marks c.contracts.contract c.requires.turned (c.in_ok-led_from_nowhere.ensures).peeled marked in
-          rw w.lead_nowhere-is (length-set c.contracts.lead_nowhere.items c.contracts.contract true ∙ c.contracts.invariant.0, marked_more graph c.contracts.lead_nowhere.items c.contracts.contract c.contracts.invariant.1 none)
-      | else-index w ↦ rw w.lead_nowhere-is c.contracts.invariant
+          rw w.on_no_cycle-is (length-set c.contracts.on_no_cycle.items c.contracts.contract true ∙ c.contracts.invariant.0, marked_more graph c.contracts.on_no_cycle.items c.contracts.contract c.contracts.invariant.1 none)
+      | else-index w ↦ rw w.on_no_cycle-is c.contracts.invariant
     ]
 
 pub returns-clause-peeled : goal.returns-clause-peeled

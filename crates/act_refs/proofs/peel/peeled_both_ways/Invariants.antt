@@ -4,4 +4,4 @@ use Rattle.act_refs.specs.Peeled.{ArePeeled}
 use Rattle.act_refs.proofs.peel.peeled_both_ways.Given as goal
 
 abbrev pub invariant-contracts : goal.invariant-contracts
-invariant-contracts l = (length l.lead_nowhere.items ≡ length l.children) × ArePeeled (child_lists l.children) l.lead_nowhere.items
+invariant-contracts l = (length l.on_no_cycle.items ≡ length l.children) × ArePeeled (child_lists l.children) l.on_no_cycle.items

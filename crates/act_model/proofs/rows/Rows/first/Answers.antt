@@ -12,7 +12,7 @@ first-requires c =
     let full = map arc_value c.self.inside.full.items in
     let k = c.min-chunks.result in
     let count = c.args.count in
-    let next = c.behind.ensures ∙ ap (λ full. next_rows (slice_get (map arc_value full) k) c.self.inside.last) c.deref-2.ensures.value in
+    let next = c.behind-next.ensures ∙ ap (λ full. next_rows (slice_get (map arc_value full) k) c.self.inside.last) c.deref-2.ensures.value in
     let chunks : k ≡ min (count / 64) (length full) = c.min-chunks.ensures ∙ ap (min (count / 64)) (c.len.ensures ∙ c.self.inside.full.ok.0 ∙ sym (length-map c.self.inside.full.items arc_value)) in
     subst (λ rows. count - k * 64 ≤ length rows) (sym next) (within_next full c.self.inside.last c.self.invariant count k chunks (subst (λ rows. count ≤ length rows) (sym c.self.view_is) c.requires))
 
@@ -21,7 +21,7 @@ invariant_of-result c =
     let full = map arc_value c.self.inside.full.items in
     let k = c.min-chunks.result in
     let count = c.args.count in
-    let next = c.behind.ensures ∙ ap (λ full. next_rows (slice_get (map arc_value full) k) c.self.inside.last) c.deref-2.ensures.value in
+    let next = c.behind-next.ensures ∙ ap (λ full. next_rows (slice_get (map arc_value full) k) c.self.inside.last) c.deref-2.ensures.value in
     let chunks : k ≡ min (count / 64) (length full) = c.min-chunks.ensures ∙ ap (min (count / 64)) (c.len.ensures ∙ c.self.inside.full.ok.0 ∙ sym (length-map c.self.inside.full.items arc_value)) in
     let same : map arc_value c.in_ok-full.full.items ≡ take k full = c.in_ok-full.ensures ∙ ap (λ full. map arc_value (take k full)) c.deref.ensures.value ∙ sym (take-map arc_value k c.self.inside.full.items) in
     let rest : c.in_ok-last.last ≡ take (count - k * 64) (next_rows (slice_get full k) c.self.inside.last) = c.in_ok-last.ensures ∙ ap (take (count - k * 64)) next in
@@ -37,7 +37,7 @@ returns c =
     let last = c.self.inside.last in
     let k = c.min-chunks.result in
     let count = c.args.count in
-    let next = c.behind.ensures ∙ ap (λ full. next_rows (slice_get (map arc_value full) k) c.self.inside.last) c.deref-2.ensures.value in
+    let next = c.behind-next.ensures ∙ ap (λ full. next_rows (slice_get (map arc_value full) k) c.self.inside.last) c.deref-2.ensures.value in
     let chunks : k ≡ min (count / 64) (length full) = c.min-chunks.ensures ∙ ap (min (count / 64)) (c.len.ensures ∙ c.self.inside.full.ok.0 ∙ sym (length-map c.self.inside.full.items arc_value)) in
     let same : map arc_value c.in_ok-full.full.items ≡ take k full = c.in_ok-full.ensures ∙ ap (λ full. map arc_value (take k full)) c.deref.ensures.value ∙ sym (take-map arc_value k c.self.inside.full.items) in
     let rest : c.in_ok-last.last ≡ take (count - k * 64) (next_rows (slice_get full k) last) = c.in_ok-last.ensures ∙ ap (take (count - k * 64)) next in

@@ -15,13 +15,13 @@ long_else Long is = refl
 pub returns-then-is_up_to : goal.returns-then-is_up_to
 returns-then-is_up_to c =
     let s = c.args.self.now in
-    let up_to = rw c.cycle_date-next.ensures at (c.is_up_to.ensures.0 c.if-is_up_to.true) in
-    sym (stays c.args.anchor c.args.cycle s.end s.rule (search rules) c.requires.cycle c.args.place c.in_ok-date.date (sym c.in_ok-date.ensures) up_to)
+    let up_to = rw c.cycle_date-next.ensures.value at (c.is_up_to.ensures.0 c.if-is_up_to.true) in
+    sym (stays c.args.anchor.now c.args.cycle s.end s.rule (search rules) c.requires.cycle c.args.place c.in_ok-date.date (sym c.in_ok-date.ensures) up_to)
 
 pub returns-else-is_up_to : goal.returns-else-is_up_to
 returns-else-is_up_to c =
     let s = c.args.self.now in
     let more : 0 < c.args.place = omega arith in
-    let past : ¬ (IsSomeAnd (cycle_date c.args.anchor c.args.cycle s.rule (c.args.place + 1)) (λ next. next ≤ℤ s.end)) =
-    λ up_to. let yes = c.is_up_to.ensures.1 (rw c.cycle_date-next.ensures up_to) in cc in
-    sym (left_out c.args.anchor c.args.cycle s.end s.rule (search rules) c.requires.cycle c.args.place c.in_ok-date.date (sym c.in_ok-date.ensures) more (long_else c.args.cycle.stub c.if-eq.ensures) past)
+    let past : ¬ (IsSomeAnd (cycle_date c.args.anchor.now c.args.cycle s.rule (c.args.place + 1)) (λ next. next ≤ℤ s.end)) =
+    λ up_to. let yes = c.is_up_to.ensures.1 (rw c.cycle_date-next.ensures.value up_to) in cc in
+    sym (left_out c.args.anchor.now c.args.cycle s.end s.rule (search rules) c.requires.cycle c.args.place c.in_ok-date.date (sym c.in_ok-date.ensures) more (long_else c.args.cycle.stub c.if-eq.ensures) past)

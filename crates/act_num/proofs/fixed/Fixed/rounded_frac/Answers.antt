@@ -2,7 +2,7 @@ use Rattle.std.proofs.Common.{◌≡◌, ◌*◌, ◌*ℤ◌, pos, unsigned_abs,
 use Rattle.std.proofs.lemmas.Int.{ints}
 use Rattle.act_num.specs.Number.{one}
 use Rattle.act_num.proofs.Products.{mul_frac_of_steps}
-use Rattle.act_num.proofs.fixed.Fixed.mul_frac.Goals as goal
+use Rattle.act_num.proofs.fixed.Fixed.rounded_frac.Goals as goal
 
 pub returns : goal.returns
 returns c =
