@@ -11,6 +11,8 @@ use crate::maturity::maturity_of;
 use act_loan::LoanTerms;
 use act_model::{Ann, Common, ContractType, Kind, Lam, Nam, Plan, PlanFault, Terms};
 
+// Inlined, all five: a loan's terms are large, and each event asks for them.
+
 /// The terms of a LAM, a NAM or an ANN as a loan's, or why a LAM has no maturity.
 #[inline(always)]
 pub(crate) fn loan_terms(terms: &Terms) -> Result<LoanTerms<'_>, PlanFault>

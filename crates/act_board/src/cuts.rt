@@ -5,7 +5,7 @@ ghost use Rattle.act_profile.specs.Kept.{kept_of};
 ghost use Rattle.act_profile.specs.Reads.{cut_of};
 ghost use Rattle.act_profile.specs.Run.{run_of};
 
-use crate::latest::in_range;
+use crate::latest::cut_between;
 use act_cut::IndexedBook;
 use act_date::Day;
 use act_num::NoMemory;
@@ -34,13 +34,11 @@ pub(crate) fn cuts_between(
     // A portfolio tells how its contracts are linked only where it is asked for their terms and order.
     let _ = portfolio.order();
     let contracts = portfolio.terms().len();
-    let from = one.min(other);
-    let to = one.max(other);
-    let seen = book.snapshot(to)?;
+    let seen = book.snapshot(other)?;
     let mut cuts = Vec::with_capacity(alloc, contracts)?;
     'contracts: for contract in 0..contracts {
-        let cut = book.cut(portfolio.reads(contract as u32), &seen, from, to);
-        cuts.push(in_range(cut))?;
+        let cut = cut_between(portfolio.reads(contract as u32), book, &seen, one, other)?;
+        cuts.push(cut)?;
     }
     Ok(cuts)
 }

@@ -147,7 +147,7 @@ pub(crate) fn cached_for(
 }
 
 /// The cut from the smaller to the greater of two versions of a book, of which the entries of the second are seen.
-fn cut_between(
+pub(crate) fn cut_between(
     reads: &Reads,
     book: &mut IndexedBook,
     seen: &Entries,

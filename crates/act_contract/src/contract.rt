@@ -2,6 +2,7 @@
 ghost use Rattle.std.specs.Prelude.{◌≡◌, ◌≢◌, true, map, Ok, Err};
 ghost use Rattle.std.specs.Arc.{arc_value};
 ghost use Rattle.act_amort.specs.Kinds.{amortizes};
+ghost use Rattle.act_contract.specs.Kinds.{is_stepped_by_value};
 ghost use Rattle.act_credit.specs.Kinds.{is_guarantee};
 ghost use Rattle.act_equity.specs.Kinds.{is_stock_or_outright};
 ghost use Rattle.act_kind.specs.Takes.{Takes, with_state};
@@ -14,6 +15,7 @@ ghost use Rattle.act_profile.specs.Steps.{currency_of, own_currency, start_of, s
 ghost use Rattle.act_swap.specs.Kinds.{is_swap_or_cap};
 
 use act_date::Day;
+use act_kind::with_state;
 use act_model::{
     Common, ContractType, Event, Kind, Observed, Plan, PlanFault, Run, State, Stop, Terms,
 };
@@ -108,14 +110,9 @@ pub fn step<O: Observed, L: Ledger>(
     ensures { Takes result
         (step_of terms.now plan.now (O.entries seen.now) (map arc_value children.now) state.now event.now) steps.old steps.new }
 {
-    match family_of(&terms.kind) {
-        Family::Loan => act_loan::step(terms, plan, state, event, seen, steps),
-        Family::Amortizing => act_amort::step(terms, plan, state, event, seen, steps),
-        Family::Equity => act_equity::step(terms, plan, state, event, seen, steps),
-        Family::Swap => act_swap::step(terms, plan, state, event, children, seen, steps),
-        Family::Option => act_option::step(terms, plan, state, event, seen, steps),
-        Family::Credit => act_credit::step(terms, plan, state, event, children, seen, steps),
-    }
+    let mut next = *state;
+    let taken = advance(terms, plan, &mut next, event, children, seen, steps);
+    with_state(next, taken)
 }
 
 /// Takes the step of an event, as [`step`] does, in place: the state becomes the one after the event, and what the event
@@ -139,11 +136,13 @@ pub fn advance<O: Observed, L: Ledger>(
         Family::Loan => act_loan::advance(terms, plan, state, event, seen, steps),
         Family::Amortizing => act_amort::advance(terms, plan, state, event, seen, steps),
         Family::Swap => act_swap::advance(terms, plan, state, event, children, seen, steps),
-        _ => advance_by_step(terms, plan, state, event, children, seen, steps),
+        Family::Equity | Family::Option | Family::Credit => {
+            advance_by_step(terms, plan, state, event, children, seen, steps)
+        }
     }
 }
 
-/// The same, by way of [`step`].
+/// The same of a kind whose crate answers the next state by value.
 fn advance_by_step<O: Observed, L: Ledger>(
     terms: &Terms,
     plan: &Plan,
@@ -155,15 +154,40 @@ fn advance_by_step<O: Observed, L: Ledger>(
 ) -> Result<Fixed, Stop>
     requires built { IsBuilt terms.now.kind }
     requires plan { plan_of terms.now ≡ Ok plan.now }
+    requires by_value { is_stepped_by_value (type_of terms.now.kind) ≡ true }
     ensures { Takes (with_state state.new result)
         (step_of terms.now plan.now (O.entries seen.now) (map arc_value children.now) state.old event.now) steps.old steps.new }
 {
-    match step(terms, plan, state, event, children, seen, steps) {
+    match step_by_value(terms, plan, state, event, children, seen, steps) {
         Ok((payoff, next)) => {
             *state = next;
             Ok(payoff)
         }
         Err(stop) => Err(stop),
+    }
+}
+
+/// What such an event pays, and the state after it.
+fn step_by_value<O: Observed, L: Ledger>(
+    terms: &Terms,
+    plan: &Plan,
+    state: &State,
+    event: &Event,
+    children: &[Arc<Run, Global>],
+    seen: &O,
+    steps: &mut Steps<L>,
+) -> Result<(Fixed, State), Stop>
+    requires built { IsBuilt terms.now.kind }
+    requires plan { plan_of terms.now ≡ Ok plan.now }
+    requires by_value { is_stepped_by_value (type_of terms.now.kind) ≡ true }
+    ensures { Takes result
+        (step_of terms.now plan.now (O.entries seen.now) (map arc_value children.now) state.now event.now) steps.old steps.new }
+{
+    match family_of(&terms.kind) {
+        Family::Equity => act_equity::step(terms, plan, state, event, seen, steps),
+        Family::Option => act_option::step(terms, plan, state, event, seen, steps),
+        Family::Credit => act_credit::step(terms, plan, state, event, children, seen, steps),
+        Family::Loan | Family::Amortizing | Family::Swap => unreachable!(),
     }
 }
 

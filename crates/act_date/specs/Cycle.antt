@@ -25,7 +25,7 @@ months_later date n =
     let month = 12 * date.year + (date.month - 1) + n in
     record { year = month / 12; month = month % 12 + 1; day = min date.day (month_length (month / 12) (month % 12 + 1)) }
 
--- the months from the year 0 to that of the day's date, and its day of the month
+-- a day of the engine, with the months from the year 0 to the month of its date, and the date's day of the month
 pub record IsAnchor (day : ℤ) (months day_of_month : ℕ) : Type 0 where
   pub in_range : IsDay day
   pub date : IsDateOf day (civil_of day)

@@ -110,7 +110,7 @@ pub fn counting<'a>(terms: &Terms, plan: &'a Plan) -> &'a [Event]
     &until_end[count_early(terms.common.status_date, &terms.kind, until_end)..]
 }
 
-/// How many events of a plan in order there are up to the first that ends the contract. What comes before it isn't looked at.
+/// How many events of a plan in order there are up to the first that ends the contract, with it. It is found by halving.
 fn count_to_planned_end(kind: &Kind, plan: &Plan) -> usize
     requires { in_order plan.now.events ≡ plan.now.events }
     ensures taken { take result plan.now.events ≡ up_to_end kind.now plan.now.events }
@@ -155,7 +155,7 @@ fn keep_counting(status: Day, kind: &Kind, events: &mut Vec<Event>)
     events.retain(|event| counts(status, kind, event.day));
 }
 
-/// How many events there are up to the first that ends the contract.
+/// How many events there are up to the first that ends the contract, with it.
 fn count_to_end(kind: &Kind, events: &[Event]) -> usize
     ensures taken { take result events.now ≡ up_to_end kind.now events.now }
     ensures within { result ≤ length events.now }

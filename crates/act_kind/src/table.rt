@@ -75,11 +75,11 @@ pub fn take_step<T: Table, O: Observed, L: Ledger>(
 {
     let mut next = *state;
     let taken = advance(terms, plan, table, &mut next, event, seen, steps);
-    with_state(taken, next)
+    with_state(next, taken)
 }
 
 /// What an event pays, with the state that a step in place left; or why it stopped.
-pub fn with_state(taken: Result<Fixed, Stop>, state: State) -> Result<(Fixed, State), Stop>
+pub fn with_state(state: State, taken: Result<Fixed, Stop>) -> Result<(Fixed, State), Stop>
     ensures { result ≡ with_state state taken }
 {
     match taken {
@@ -92,8 +92,7 @@ pub fn with_state(taken: Result<Fixed, Stop>, state: State) -> Result<(Fixed, St
 /// settlement factor before the others, and then what accrues, what is paid and the change of the state. An event before
 /// a purchase pays nothing, and reads nothing for it. It ticks once; but where it stops it doesn't tick, and the state is
 /// of no use.
-///
-/// It isn't inlined: the compiler would take the state apart, and put it together again for each event.
+// The compiler would take the state apart, and put it together again for each event.
 #[inline(never)]
 pub fn advance<T: Table, O: Observed, L: Ledger>(
     terms: &Terms,

@@ -9,7 +9,7 @@ ghost use Rattle.act_profile.specs.Steps.{start_of, step_of};
 
 use crate::table::LoanTable;
 use crate::terms::LoanTerms;
-use act_kind::{advance, take_step};
+use act_kind::{advance, with_state};
 use act_model::{Event, EventType, Observed, Plan, State, Stop, Terms};
 use act_num::{Fixed, Steps};
 use std::sync::ledger::Ledger;
@@ -34,8 +34,6 @@ pub fn start_loan(terms: &Terms, loan: &LoanTerms<'_>, plan: &Plan) -> Result<St
 
 /// What an event of a loan pays and the state after it, or why the run stops there, by its terms as a loan's. Where it
 /// is Ok it ticks once, and else not at all. It takes no memory.
-#[inline(always)]
-#[tactic(auto, using(crate::proofs::Contracts::periods_of))]
 pub fn step_loan<O: Observed, L: Ledger>(
     terms: &Terms,
     loan: LoanTerms<'_>,
@@ -49,8 +47,9 @@ pub fn step_loan<O: Observed, L: Ledger>(
     requires plan { plan_of terms.now ≡ Ok plan.now }
     ensures { Takes result (step_of terms.now plan.now (O.entries seen.now) [] state.now event.now) steps.old steps.new }
 {
-    let table = LoanTable::new(loan, plan);
-    take_step(terms, plan, &table, state, event, seen, steps)
+    let mut next = *state;
+    let taken = advance_loan(terms, loan, plan, &mut next, event, seen, steps);
+    with_state(next, taken)
 }
 
 /// Takes the step of an event of a loan, by its terms as a loan's, in place: the state becomes the one after the event,

@@ -4,37 +4,35 @@ use Rattle.std.proofs.lemmas.Bool.Decides.{Decides-int_eq}
 use Rattle.std.proofs.lemmas.List.{map_push, take_more}
 use Rattle.std.specs.Prelude.{ℤ}
 use denote.Enum.Bare.{same_true, sameb}
-use Rattle.act_model.specs.Chunk.{full_numbers, full_row, level_at}
+use Rattle.act_model.specs.Chunk.{full_numbers, full_row, level_at, printed_level, printed_numbers}
 use Rattle.act_model.specs.Run.{Cells, HaveSameCells, cells_of}
 use Rattle.act_model.specs.contracts.event.EventType.{the_type}
 use Rattle.act_model.specs.declared.event.EventType.{EventType}
-use Rattle.act_model.specs.declared.numbers.Level.{Level}
-use Rattle.act_model.specs.declared.numbers.Numbers.{Numbers}
 use Rattle.act_model.specs.declared.shared.Shared.{Shared}
 use Rattle.act_model.specs.declared.shared.Slim.{Slim}
 use Rattle.act_model.proofs.Slims.{both}
 
 -- what is printed of a row with these
-abbrev cells : ℤ → EventType → Level → Numbers → Cells
+abbrev cells : ℤ → EventType → ℤ × ℤ × ℕ → ℤ × ℤ × ℤ × ℤ → Cells
 cells day kind level numbers = record {
   day = day;
   kind = kind;
-  currency = level.currency;
-  payoff = numbers.payoff;
-  notional = numbers.nt;
-  rate = numbers.ipnr;
-  interest = numbers.ipac;
+  currency = level.2;
+  payoff = numbers.0;
+  notional = numbers.1;
+  rate = numbers.2;
+  interest = numbers.3;
 }
 
-same_cells : (day day' : ℤ) (kind kind' : EventType) (level level' : Level) (numbers numbers' : Numbers) → day ≡ day' → kind ≡ kind' → level ≡ level' → numbers ≡ numbers' → cells day kind level numbers ≡ cells day' kind' level' numbers'
+same_cells : (day day' : ℤ) (kind kind' : EventType) (level level' : ℤ × ℤ × ℕ) (numbers numbers' : ℤ × ℤ × ℤ × ℤ) → day ≡ day' → kind ≡ kind' → level ≡ level' → numbers ≡ numbers' → cells day kind level numbers ≡ cells day' kind' level' numbers'
 same_cells day day' kind kind' level level' numbers numbers' day-is kind-is level-is numbers-are = simp (day-is, kind-is, level-is, numbers-are) refl
 
 -- what is found equal is printed alike
 pub cells_alike : (shared shared' : Shared) (one other : Slim) (day kind level numbers : Bool)
     → day ≡ int_eq one.day other.day
     → kind ≡ sameb the_type one.kind other.kind
-    → (level ≡ true → level_at shared one ≡ level_at shared' other)
-    → (numbers ≡ true → level_at shared one ≡ level_at shared' other → full_numbers shared one ≡ full_numbers shared' other)
+    → (level ≡ true → printed_level (level_at shared one) ≡ printed_level (level_at shared' other))
+    → (numbers ≡ true → printed_level (level_at shared one) ≡ printed_level (level_at shared' other) → printed_numbers (full_numbers shared one) ≡ printed_numbers (full_numbers shared' other))
     → (((day && kind) && level) && numbers) ≡ true
     → cells_of (full_row shared one) ≡ cells_of (full_row shared' other)
 cells_alike shared shared' one other day kind level numbers day-is kind-is level-is numbers-are e =
@@ -44,7 +42,7 @@ cells_alike shared shared' one other day kind level numbers day-is kind-is level
     let same_day : one.day ≡ other.day = (Decides-int_eq _ _).0 (sym day-is ∙ up_to_day.0) in
     let same_kind : one.kind ≡ other.kind = same_true the_type tt one.kind other.kind (sym kind-is ∙ up_to_day.1) in
     let same_level = level-is up_to_kind.1 in
-    same_cells one.day other.day one.kind other.kind (level_at shared one) (level_at shared' other) (full_numbers shared one) (full_numbers shared' other) same_day same_kind same_level (numbers-are up_to_level.1 same_level)
+    same_cells one.day other.day one.kind other.kind (printed_level (level_at shared one)) (printed_level (level_at shared' other)) (printed_numbers (full_numbers shared one)) (printed_numbers (full_numbers shared' other)) same_day same_kind same_level (numbers-are up_to_level.1 same_level)
 
 -- what is printed of the first rows, and of one more
 cells_more : (shared : Shared) (slims : List Slim) (k : ℕ) (slim : Slim) → k < length slims → slim ≡ get_or slims k slim

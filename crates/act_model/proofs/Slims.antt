@@ -1,4 +1,4 @@
--- Rows whose rests, bases, levels and longer numbers stand apart.
+-- Rows whose rests, levels and longer numbers stand apart.
 use Rattle.std.proofs.Common.{◌≡◌, ℕ, ◌+◌, ◌<◌, ◌≤◌, Bool, true, false, ◌&&◌, List, [], ◌∷◌, ◌++◌, length, map, take, drop, get_or, slice_get, Option, None, Some, ◌⊎◌, inl, inr, Result, Ok, Err, OnErr, refl, sym, ap, ap₂, subst, ◌∙◌, arith, int_eq}
 use Rattle.std.proofs.lemmas.Bool.Decides.{Decides-int_eq}
 use Rattle.std.proofs.lemmas.List.{append-nil, get_or_append_left, length-append, take-append-drop}
@@ -7,7 +7,7 @@ use Rattle.std.proofs.lemmas.Option.{get_or_from_slice_get, slice_get_within}
 use Rattle.std.specs.List.{All}
 use Rattle.std.specs.Option.{option_eq}
 use Rattle.std.specs.Prelude.{ℤ}
-use Rattle.act_model.specs.Chunk.{BeginsWith, FitsIn, HasParts, IsAtMost, StaysIn, bases_of, full_numbers, full_row, level_at, level_of, no_bases, no_level, no_numbers, no_rest, numbers_in, numbers_of, rest_of, row_of, short_of}
+use Rattle.act_model.specs.Chunk.{BeginsWith, FitsIn, HasParts, IsAtMost, StaysIn, full_numbers, full_row, level_at, level_of, no_level, no_numbers, no_rest, numbers_in, numbers_of, rest_of, row_of, short_of}
 use Rattle.act_model.specs.Run.{row_with}
 use Rattle.act_model.specs.declared.run.RowHead.{RowHead}
 use Rattle.act_model.specs.declared.shared.Counts.{Counts}
@@ -83,7 +83,6 @@ module _ (shared shared' : Shared) (stays : StaysIn shared shared') where
   pub still_has : (slim : Slim) → HasParts shared slim → HasParts shared' slim
   still_has slim has = record {
     rest = omega (arith, has.rest, not_fewer _ _ stays.rests);
-    bases = omega (arith, has.bases, not_fewer _ _ stays.bases);
     level = omega (arith, has.level, not_fewer _ _ stays.levels);
     long = omega (arith, has.long, not_fewer _ _ stays.long);
   }
@@ -99,10 +98,9 @@ module _ (shared shared' : Shared) (stays : StaysIn shared shared') where
   same_row : (slim : Slim) → HasParts shared slim → full_row shared' slim ≡ full_row shared slim
   same_row slim has =
       let rest = same_at shared.rests.items shared'.rests.items no_rest slim.rest stays.rests has.rest in
-      let bases = same_at shared.bases.items shared'.bases.items no_bases slim.bases stays.bases has.bases in
       let level : level_at shared' slim ≡ level_at shared slim = same_at shared.levels.items shared'.levels.items no_level slim.level stays.levels has.level in
-      ap₂ (λ rest bases. row_of rest bases (level_at shared' slim).currency (full_numbers shared' slim) slim) rest bases
-      ∙ ap₂ (λ (level : Level) numbers. row_of (get_or shared.rests.items slim.rest no_rest) (get_or shared.bases.items slim.bases no_bases) level.currency numbers slim) level (same_numbers slim has)
+      ap (λ rest. row_of rest (level_at shared' slim).currency (full_numbers shared' slim) slim) rest
+      ∙ ap₂ (λ (level : Level) numbers. row_of (get_or shared.rests.items slim.rest no_rest) level.currency numbers slim) level (same_numbers slim has)
 
   pub same_rows : (slims : List Slim) → All (HasParts shared) slims → map (full_row shared') slims ≡ map (full_row shared) slims
   same_rows [] have = refl
@@ -117,12 +115,10 @@ module _ (shared shared' : Shared) (stays : StaysIn shared shared') where
 -- its parts stand at their places
 module _ (shared : Shared) (slim : Slim) (short : Short) (head : RowHead) (state : State)
     (rest : slice_get shared.rests.items slim.rest ≡ Some (rest_of state))
-    (bases : slice_get shared.bases.items slim.bases ≡ Some (bases_of state))
     (level : slice_get shared.levels.items slim.level ≡ Some (level_of short head.currency)) where
   pub parts_there : slim.long ≤ length shared.long.items → HasParts shared slim
   parts_there within = record {
     rest = slice_get_within shared.rests.items slim.rest (rest_of state) rest;
-    bases = slice_get_within shared.bases.items slim.bases (bases_of state) bases;
     level = slice_get_within shared.levels.items slim.level (level_of short head.currency) level;
     long = within;
   }
@@ -135,11 +131,10 @@ module _ (shared : Shared) (slim : Slim) (short : Short) (head : RowHead) (state
       let same : numbers_in (short_of (level_at shared slim) slim) ≡ numbers_in short = simp (level_there, payoff, ipac) refl in
       ap (λ own. get_or (own ∷ shared.long.items) slim.long no_numbers) same ∙ numbers
 
-  pub row_there : full_numbers shared slim ≡ numbers_of head state → row_of (rest_of state) (bases_of state) head.currency (numbers_of head state) slim ≡ row_with head state → full_row shared slim ≡ row_with head state
+  pub row_there : full_numbers shared slim ≡ numbers_of head state → row_of (rest_of state) head.currency (numbers_of head state) slim ≡ row_with head state → full_row shared slim ≡ row_with head state
   row_there numbers is =
-      ap₂ (λ rest bases. row_of rest bases (level_at shared slim).currency (full_numbers shared slim) slim)
-      (get_or_from_slice_get shared.rests.items slim.rest (rest_of state) no_rest rest) (get_or_from_slice_get shared.bases.items slim.bases (bases_of state) no_bases bases)
-      ∙ ap₂ (λ (level : Level) numbers. row_of (rest_of state) (bases_of state) level.currency numbers slim) level_there numbers
+      ap (λ rest. row_of rest (level_at shared slim).currency (full_numbers shared slim) slim) (get_or_from_slice_get shared.rests.items slim.rest (rest_of state) no_rest rest)
+      ∙ ap₂ (λ (level : Level) numbers. row_of (rest_of state) level.currency numbers slim) level_there numbers
       ∙ is
 
 -- ---- how many of each are needed
@@ -147,7 +142,6 @@ module _ (shared : Shared) (slim : Slim) (short : Short) (head : RowHead) (state
 fits_more : (few many : Counts) (slim : Slim) → IsAtMost few many → FitsIn few slim → FitsIn many slim
 fits_more few many slim more fits = record {
   rest = omega (arith, fits.rest, more.rests);
-  bases = omega (arith, fits.bases, more.bases);
   level = omega (arith, fits.level, more.levels);
   long = omega (arith, fits.long, more.long);
 }

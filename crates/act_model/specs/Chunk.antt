@@ -1,6 +1,5 @@
 -- Rows of a chunk, and what they share. This profile's own.
-use Rattle.std.specs.Prelude.{◌≡◌, ℕ, ◌<◌, ◌≤◌, pos, List, ◌∷◌, ◌++◌, length, None, Some, if◌then◌else◌, get_or}
-use Rattle.act_model.specs.declared.shared.Bases.{Bases}
+use Rattle.std.specs.Prelude.{◌≡◌, ℕ, ℤ, ◌<◌, ◌≤◌, pos, List, ◌∷◌, ◌++◌, length, None, Some, if◌then◌else◌, get_or}
 use Rattle.act_model.specs.declared.shared.Counts.{Counts}
 use Rattle.act_model.specs.declared.numbers.Level.{Level}
 use Rattle.act_model.specs.declared.numbers.Numbers.{Numbers}
@@ -27,29 +26,33 @@ rest_of state = record {
   xa = state.xa;
 }
 
--- the bases of a state
-abbrev pub bases_of : State → Bases
-bases_of state = record { feac = state.feac; ipcb = state.ipcb }
-
--- the numbers of a row that are printed
+-- the numbers of a row
 abbrev pub numbers_of : RowHead → State → Numbers
-numbers_of head state = record { payoff = head.payoff; nt = state.nt; ipnr = state.ipnr; ipac = state.ipac }
+numbers_of head state = record { payoff = head.payoff; nt = state.nt; ipnr = state.ipnr; ipac = state.ipac; feac = state.feac; ipcb = state.ipcb }
 
 -- the numbers that short ones are
 abbrev pub numbers_in : Short → Numbers
-numbers_in short = record { payoff = short.payoff; nt = short.nt; ipnr = short.ipnr; ipac = short.ipac }
+numbers_in short = record { payoff = short.payoff; nt = short.nt; ipnr = short.ipnr; ipac = short.ipac; feac = short.feac; ipcb = short.ipcb }
 
 -- the level of short numbers, with a currency
 abbrev pub level_of : Short → ℕ → Level
-level_of short currency = record { nt = short.nt; ipnr = short.ipnr; currency = currency }
+level_of short currency = record { nt = short.nt; ipnr = short.ipnr; feac = short.feac; ipcb = short.ipcb; currency = currency }
 
 -- the short numbers of a row with a level
 abbrev pub short_of : Level → Slim → Short
-short_of level slim = record { payoff = slim.payoff; nt = level.nt; ipnr = level.ipnr; ipac = slim.ipac }
+short_of level slim = record { payoff = slim.payoff; nt = level.nt; ipnr = level.ipnr; ipac = slim.ipac; feac = level.feac; ipcb = level.ipcb }
 
--- a row with a rest, bases, a currency and numbers
-abbrev pub row_of : Rest → Bases → ℕ → Numbers → Slim → Row
-row_of rest bases currency numbers slim = record {
+-- what is printed of numbers: the payoff, the notional, the rate and the interest accrued
+abbrev pub printed_numbers : Numbers → ℤ × ℤ × ℤ × ℤ
+printed_numbers numbers = (numbers.payoff, numbers.nt, numbers.ipnr, numbers.ipac)
+
+-- what is printed of a level: the notional, the rate and the currency
+abbrev pub printed_level : Level → ℤ × ℤ × ℕ
+printed_level level = (level.nt, level.ipnr, level.currency)
+
+-- a row with a rest, a currency and numbers
+abbrev pub row_of : Rest → ℕ → Numbers → Slim → Row
+row_of rest currency numbers slim = record {
   day = slim.day;
   kind = slim.kind;
   currency = currency;
@@ -63,10 +66,10 @@ row_of rest bases currency numbers slim = record {
     ipac = numbers.ipac;
     ipnr2 = rest.ipnr2;
     ipac2 = rest.ipac2;
-    feac = bases.feac;
+    feac = numbers.feac;
     nsc = rest.nsc;
     isc = rest.isc;
-    ipcb = bases.ipcb;
+    ipcb = numbers.ipcb;
     prnxt = rest.prnxt;
     xa = rest.xa;
   };
@@ -77,14 +80,12 @@ row_of rest bases currency numbers slim = record {
 -- what a row shares stands among the first, so many of each; its numbers do where they don't stand in it
 pub record FitsIn (counts : Counts) (slim : Slim) : Type 0 where
   pub rest : slim.rest < counts.rests
-  pub bases : slim.bases < counts.bases
   pub level : slim.level < counts.levels
   pub long : slim.long ≤ counts.long
 
 -- there are at least as many of each
 pub record IsAtMost (few many : Counts) : Type 0 where
   pub rests : few.rests ≤ many.rests
-  pub bases : few.bases ≤ many.bases
   pub levels : few.levels ≤ many.levels
   pub long : few.long ≤ many.long
 
@@ -92,7 +93,6 @@ pub record IsAtMost (few many : Counts) : Type 0 where
 abbrev pub counts_of : Shared → Counts
 counts_of shared = record {
   rests = length shared.rests.items;
-  bases = length shared.bases.items;
   levels = length shared.levels.items;
   long = length shared.long.items;
 }
@@ -107,17 +107,13 @@ HasParts shared slim = FitsIn (counts_of shared) slim
 abbrev pub no_rest : Rest
 no_rest = record { md = None; xd = None; ipnr2 = pos 0; ipac2 = pos 0; nsc = pos 0; isc = pos 0; prnxt = pos 0; xa = pos 0 }
 
--- the bases of one that has none
-abbrev pub no_bases : Bases
-no_bases = record { feac = pos 0; ipcb = pos 0 }
-
 -- the level of one that has none
 abbrev pub no_level : Level
-no_level = record { nt = pos 0; ipnr = pos 0; currency = 0 }
+no_level = record { nt = pos 0; ipnr = pos 0; feac = pos 0; ipcb = pos 0; currency = 0 }
 
 -- the numbers of one that has none
 abbrev pub no_numbers : Numbers
-no_numbers = record { payoff = pos 0; nt = pos 0; ipnr = pos 0; ipac = pos 0 }
+no_numbers = record { payoff = pos 0; nt = pos 0; ipnr = pos 0; ipac = pos 0; feac = pos 0; ipcb = pos 0 }
 
 -- a row's level
 abbrev pub level_at : Shared → Slim → Level
@@ -127,10 +123,10 @@ level_at shared slim = get_or shared.levels.items slim.level no_level
 abbrev pub full_numbers : Shared → Slim → Numbers
 full_numbers shared slim = get_or (numbers_in (short_of (level_at shared slim) slim) ∷ shared.long.items) slim.long no_numbers
 
--- a row with its own rest, bases, currency and numbers among what is shared
+-- a row with its own rest, currency and numbers among what is shared
 abbrev pub full_row : Shared → Slim → Row
 full_row shared slim =
-    row_of (get_or shared.rests.items slim.rest no_rest) (get_or shared.bases.items slim.bases no_bases) (level_at shared slim).currency (full_numbers shared slim) slim
+    row_of (get_or shared.rests.items slim.rest no_rest) (level_at shared slim).currency (full_numbers shared slim) slim
 
 -- ---- what is there stays
 
@@ -141,6 +137,5 @@ BeginsWith {X} xs front = (more : List X) × (xs ≡ front ++ more)
 -- of each, what was shared before is there at its place
 pub record StaysIn (before after : Shared) : Type 0 where
   pub rests : BeginsWith after.rests.items before.rests.items
-  pub bases : BeginsWith after.bases.items before.bases.items
   pub levels : BeginsWith after.levels.items before.levels.items
   pub long : BeginsWith after.long.items before.long.items

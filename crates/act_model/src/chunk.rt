@@ -5,13 +5,13 @@ ghost use Rattle.act_model.specs.Chunk.{HasParts, full_row};
 ghost use Rattle.act_model.specs.Run.{HaveSameCells, row_with};
 
 use crate::run::{Row, RowHead};
-use crate::shared::{Shared, Slim, are_alike};
+use crate::shared::{Shared, Slim, are_alike, copied};
 use crate::state::State;
 use act_num::NoMemory;
 use std::alloc::Global;
 use std::marker::Model;
 
-/// Rows, in order. Neighbours whose states differ in little share the rest, the bases and the level.
+/// Rows, in order. Neighbours whose states differ in little share the rest and the level.
 #[derive(Drop)]
 pub(crate) struct Chunk {
     rows: Vec<Slim>,
@@ -43,11 +43,11 @@ impl Chunk {
     }
 
     /// No rows, and room for so many.
-    pub(crate) fn with_capacity(alloc: Global, count: usize) -> Result<Chunk, NoMemory>
+    pub(crate) fn with_capacity(alloc: Global, room: usize) -> Result<Chunk, NoMemory>
         ensures { IfOk result (λ chunk. chunk ≡ []) }
     {
         Ok(Chunk {
-            rows: Vec::with_capacity(alloc, count)?,
+            rows: Vec::with_capacity(alloc, room)?,
             shared: Shared::new(alloc),
         })
     }
@@ -57,8 +57,7 @@ impl Chunk {
         requires { count ≤ length self.now }
         ensures { IfOk result (λ chunk. chunk ≡ take count self.now) }
     {
-        let mut rows = Vec::with_capacity(alloc, room)?;
-        rows.extend_from_slice(&self.rows[..count])?;
+        let rows = copied(alloc, &self.rows[..count], room)?;
         let shared = self.shared.needed(alloc, &rows)?;
         Ok(Chunk { rows, shared })
     }

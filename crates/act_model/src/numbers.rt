@@ -1,22 +1,24 @@
-//! The numbers of rows that are printed, and the level that they share with other rows.
+//! The numbers of rows, and the level that they share with other rows.
 ghost use Rattle.std.specs.Prelude.{◌≡◌, true, IfSome};
-ghost use Rattle.act_model.specs.Chunk.{level_of, numbers_in, numbers_of};
+ghost use Rattle.act_model.specs.Chunk.{level_of, numbers_in, numbers_of, printed_level, printed_numbers};
 
 use crate::run::RowHead;
 use crate::state::State;
 use act_num::Fixed;
 
-/// The notional and the rate of a row, in units of 10^-9, and its currency, which stay over many rows. Where its numbers are
-/// kept elsewhere, the notional and the rate are 0 here.
+/// The notional, the rate, the fee accrued and the base of interest of a row, in units of 10^-9, and its currency, which stay over
+/// many rows. Where its numbers are kept elsewhere, they are 0 here.
 #[derive(Clone, Copy)]
 pub(crate) struct Level {
     pub(crate) nt: i64,
     pub(crate) ipnr: i64,
+    pub(crate) feac: i64,
+    pub(crate) ipcb: i64,
     pub(crate) currency: u32,
 }
 
-// A level takes 24 bytes.
-const _: () = prove!(size_of::<Level>() <= 24);
+// A level takes 40 bytes.
+const _: () = prove!(size_of::<Level>() <= 40);
 
 impl Level {
     /// Whether both are the same. All is compared, without a branch for each part.
@@ -24,17 +26,27 @@ impl Level {
     pub(crate) fn is(&self, other: &Level) -> bool
         ensures { result ≡ true → self.now ≡ other.now }
     {
+        self.is_printed_as(other) & (self.feac == other.feac) & (self.ipcb == other.ipcb)
+    }
+
+    /// Whether what is printed of both is the same.
+    #[inline(always)]
+    pub(crate) fn is_printed_as(&self, other: &Level) -> bool
+        ensures { result ≡ true → printed_level self.now ≡ printed_level other.now }
+    {
         (self.nt == other.nt) & (self.ipnr == other.ipnr) & (self.currency == other.currency)
     }
 }
 
-/// The numbers of a row that are printed.
+/// The numbers of a row that mostly fit 64 bits: those that are printed, and what interest and fees go by.
 #[derive(Clone, Copy)]
 pub(crate) struct Numbers {
     pub(crate) payoff: Fixed,
     pub(crate) nt: Fixed,
     pub(crate) ipnr: Fixed,
     pub(crate) ipac: Fixed,
+    pub(crate) feac: Fixed,
+    pub(crate) ipcb: Fixed,
 }
 
 impl Numbers {
@@ -47,12 +59,14 @@ impl Numbers {
             nt: state.nt,
             ipnr: state.ipnr,
             ipac: state.ipac,
+            feac: state.feac,
+            ipcb: state.ipcb,
         }
     }
 
-    /// Whether both are the same.
-    pub(crate) fn are(&self, other: &Numbers) -> bool
-        ensures { result ≡ true → self.now ≡ other.now }
+    /// Whether what is printed of both is the same.
+    pub(crate) fn are_printed_as(&self, other: &Numbers) -> bool
+        ensures { result ≡ true → printed_numbers self.now ≡ printed_numbers other.now }
     {
         (self.payoff == other.payoff)
             & (self.nt == other.nt)
@@ -61,13 +75,15 @@ impl Numbers {
     }
 }
 
-/// The numbers of a row that are printed, where each fits 64 bits, in units of 10^-9.
+/// The same numbers, where each fits 64 bits, in units of 10^-9.
 #[derive(Clone, Copy)]
 pub(crate) struct Short {
     pub(crate) payoff: i64,
     pub(crate) nt: i64,
     pub(crate) ipnr: i64,
     pub(crate) ipac: i64,
+    pub(crate) feac: i64,
+    pub(crate) ipcb: i64,
 }
 
 impl Short {
@@ -77,6 +93,8 @@ impl Short {
         nt: 0,
         ipnr: 0,
         ipac: 0,
+        feac: 0,
+        ipcb: 0,
     };
 
     /// Those of a row, where each fits.
@@ -89,6 +107,8 @@ impl Short {
             nt: shortened(state.nt)?,
             ipnr: shortened(state.ipnr)?,
             ipac: shortened(state.ipac)?,
+            feac: shortened(state.feac)?,
+            ipcb: shortened(state.ipcb)?,
         })
     }
 
@@ -100,6 +120,8 @@ impl Short {
         Level {
             nt: self.nt,
             ipnr: self.ipnr,
+            feac: self.feac,
+            ipcb: self.ipcb,
             currency,
         }
     }
@@ -114,6 +136,8 @@ impl Short {
             nt: lengthened(self.nt),
             ipnr: lengthened(self.ipnr),
             ipac: lengthened(self.ipac),
+            feac: lengthened(self.feac),
+            ipcb: lengthened(self.ipcb),
         }
     }
 }

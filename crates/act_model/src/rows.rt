@@ -26,7 +26,7 @@ pub struct Rows {
     full: Vec<Arc<Chunk, Global>>,
     /// The rows behind them, at most 64.
     last: Chunk,
-    /// For how many rows in all there is room made, as far as the next chunk.
+    /// How many rows there are to be. Each chunk gets room for those of them that fall into it; rows beyond make room as they come.
     room: usize,
 }
 
@@ -53,18 +53,6 @@ impl Rows {
             last: Chunk::new(alloc),
             room: 0,
         }
-    }
-
-    /// No rows, and room for so many, chunk by chunk.
-    pub fn with_capacity(alloc: Global, room: usize) -> Result<Rows, NoMemory>
-        ensures { IfOk result (λ rows. rows ≡ []) }
-    {
-        let last = Chunk::with_capacity(alloc, room_behind(room, 0))?;
-        Ok(Rows {
-            full: Vec::new(alloc),
-            last,
-            room,
-        })
     }
 
     /// The first rows, so many, and room for `room` rows in all. It shares full chunks, and copies the rows behind them.
@@ -107,8 +95,8 @@ impl Rows {
         behind(&self.full, &self.last, chunks).row(place - chunks * CHUNK)
     }
 
-    /// How many rows at the beginning of these and of others, up to so many, are found to be printed alike, where those before a
-    /// place are.
+    /// How many of the first rows of these and of others are found to be printed alike, `most` at most. Those before `from` are known
+    /// to be.
     pub fn count_alike(&self, other: &Rows, from: usize, most: usize) -> usize
         requires here { from ≤ length self.now }
         requires there { from ≤ length other.now }

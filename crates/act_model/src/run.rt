@@ -100,10 +100,10 @@ pub enum Stop {
 /// The rows of a contract, and why there are no more.
 #[derive(Drop)]
 pub struct Run {
+    /// Why there are no more rows.
+    pub close: Close,
     /// One row for each event, in order.
     pub rows: Rows,
-    /// Why there are no more.
-    pub close: Close,
 }
 
 impl Model for Run {
@@ -123,7 +123,8 @@ pub struct Plan {
     pub redemptions: Vec<Day>,
     /// The parts of a year between these days.
     pub periods: Vec<Frac>,
-    /// Of the events the terminations and the maturities, which are asked for at each event before a purchase.
+    /// Of the events the terminations and the maturities, which are asked for at each event before a purchase, and where a plan's
+    /// end is looked for.
     ends: Vec<Event>,
 }
 

@@ -1,7 +1,7 @@
 //! Rows without what they share with others, and what they share.
 ghost use Rattle.std.specs.Prelude.{◌≡◌, ◌⊎◌, [], ◌∷◌, ◌++◌, ◌≤◌, length, true, Some, IfOk, OnErr, OnOk, get_or, slice_get};
 ghost use Rattle.std.specs.List.{All};
-ghost use Rattle.act_model.specs.Chunk.{FitsIn, HasParts, IsAtMost, StaysIn, bases_of, full_numbers, full_row, level_at, no_numbers, numbers_in, numbers_of, rest_of, row_of, short_of};
+ghost use Rattle.act_model.specs.Chunk.{FitsIn, HasParts, IsAtMost, StaysIn, full_numbers, full_row, level_at, no_numbers, numbers_in, numbers_of, printed_level, printed_numbers, rest_of, row_of, short_of};
 ghost use Rattle.act_model.specs.Run.{cells_of, row_with};
 ghost use Rattle.act_model.specs.declared.shared.Counts.{Counts};
 
@@ -59,33 +59,6 @@ impl Rest {
     }
 }
 
-/// The fee accrued and the base of interest of a state, which stay where there is no fee and no such base.
-#[derive(Clone, Copy)]
-struct Bases {
-    feac: Fixed,
-    ipcb: Fixed,
-}
-
-impl Bases {
-    /// Those of a state.
-    fn of(state: &State) -> Bases
-        ensures { result ≡ bases_of state.now }
-    {
-        Bases {
-            feac: state.feac,
-            ipcb: state.ipcb,
-        }
-    }
-
-    /// Whether they are those of a state.
-    #[inline(always)]
-    fn are_of(&self, state: &State) -> bool
-        ensures { result ≡ true → self.now ≡ bases_of state.now }
-    {
-        (self.feac == state.feac) & (self.ipcb == state.ipcb)
-    }
-}
-
 /// A row without what it shares with others, and the places of this, from 0. Numbers of which one doesn't fit 64 bits have a
 /// place too, counted from 1; it is 0 where all fit.
 #[derive(Clone, Copy)]
@@ -96,7 +69,6 @@ pub(crate) struct Slim {
     has_sd: bool,
     kind: EventType,
     rest: u8,
-    bases: u8,
     level: u8,
     long: u8,
     /// In units of 10^-9, and 0 where the numbers have a place.
@@ -109,13 +81,12 @@ pub(crate) struct Slim {
 const _: () = prove!(size_of::<Slim>() <= 32);
 
 impl Slim {
-    /// That of a row whose rest, bases, level and numbers stand at these places.
+    /// That of a row whose rest, level and numbers stand at these places.
     #[inline(always)]
-    fn of(head: &RowHead, state: &State, rest: u8, bases: u8, level: u8, placed: Placed) -> Slim
-        ensures row { row_of (rest_of state.now) (bases_of state.now) head.now.currency (numbers_of head.now state.now) result
+    fn of(head: &RowHead, state: &State, rest: u8, level: u8, placed: Placed) -> Slim
+        ensures row { row_of (rest_of state.now) head.now.currency (numbers_of head.now state.now) result
             ≡ row_with head.now state.now }
         ensures rest { result.rest ≡ rest }
-        ensures bases { result.bases ≡ bases }
         ensures level { result.level ≡ level }
         ensures long { result.long ≡ placed.long }
         ensures payoff { result.payoff ≡ placed.short.payoff }
@@ -127,7 +98,6 @@ impl Slim {
             has_sd: state.sd.is_some(),
             kind: head.kind,
             rest,
-            bases,
             level,
             long: placed.long,
             payoff: placed.short.payoff,
@@ -145,13 +115,15 @@ impl Slim {
             nt: level.nt,
             ipnr: level.ipnr,
             ipac: self.ipac,
+            feac: level.feac,
+            ipcb: level.ipcb,
         }
     }
 
-    /// The row, with its rest, its bases, its currency and its numbers.
+    /// The row, with its rest, its currency and its numbers.
     #[inline(always)]
-    fn with(&self, rest: &Rest, bases: &Bases, currency: u32, numbers: &Numbers) -> Row
-        ensures { result ≡ row_of rest.now bases.now currency numbers.now self.now }
+    fn with(&self, rest: &Rest, currency: u32, numbers: &Numbers) -> Row
+        ensures { result ≡ row_of rest.now currency numbers.now self.now }
     {
         Row {
             day: self.day,
@@ -167,10 +139,10 @@ impl Slim {
                 ipac: numbers.ipac,
                 ipnr2: rest.ipnr2,
                 ipac2: rest.ipac2,
-                feac: bases.feac,
+                feac: numbers.feac,
                 nsc: rest.nsc,
                 isc: rest.isc,
-                ipcb: bases.ipcb,
+                ipcb: numbers.ipcb,
                 prnxt: rest.prnxt,
                 xa: rest.xa,
             },
@@ -182,7 +154,6 @@ impl Slim {
 #[derive(Clone, Copy)]
 struct Counts {
     rests: usize,
-    bases: usize,
     levels: usize,
     long: usize,
 }
@@ -191,7 +162,6 @@ impl Counts {
     /// None of each.
     const NONE: Counts = Counts {
         rests: 0,
-        bases: 0,
         levels: 0,
         long: 0,
     };
@@ -204,7 +174,6 @@ impl Counts {
     {
         Counts {
             rests: self.rests.max(slim.rest as usize + 1),
-            bases: self.bases.max(slim.bases as usize + 1),
             levels: self.levels.max(slim.level as usize + 1),
             long: self.long.max(slim.long as usize),
         }
@@ -227,7 +196,6 @@ impl Counts {
 #[derive(Drop)]
 pub(crate) struct Shared {
     rests: Vec<Rest>,
-    bases: Vec<Bases>,
     levels: Vec<Level>,
     /// The numbers of rows of which one doesn't fit 64 bits.
     long: Vec<Numbers>,
@@ -238,7 +206,6 @@ impl Shared {
     pub(crate) fn new(alloc: Global) -> Shared {
         Shared {
             rests: Vec::new(alloc),
-            bases: Vec::new(alloc),
             levels: Vec::new(alloc),
             long: Vec::new(alloc),
         }
@@ -252,12 +219,11 @@ impl Shared {
     {
         let counts = Counts::of(slims);
         let rests = self.rests[..counts.rests].to_vec(alloc)?;
-        let bases = self.bases[..counts.bases].to_vec(alloc)?;
-        let levels = self.levels[..counts.levels].to_vec(alloc)?;
+        let room = counts.levels.saturating_add(more_room(counts.levels));
+        let levels = copied(alloc, &self.levels[..counts.levels], room)?;
         let long = self.long[..counts.long].to_vec(alloc)?;
         Ok(Shared {
             rests,
-            bases,
             levels,
             long,
         })
@@ -270,10 +236,9 @@ impl Shared {
         ensures row { IfOk result (λ slim. full_row self.new slim ≡ row_with head.now state.now) }
     {
         let rest = place_rest(&mut self.rests, state)?;
-        let bases = place_bases(&mut self.bases, state)?;
         let placed = place_numbers(&mut self.long, head, state)?;
         let level = place_level(&mut self.levels, &placed.short.level(head.currency))?;
-        Ok(Slim::of(head, state, rest, bases, level, placed))
+        Ok(Slim::of(head, state, rest, level, placed))
     }
 
     /// A row with what it shares.
@@ -284,7 +249,6 @@ impl Shared {
     {
         slim.with(
             &self.rests[slim.rest as usize],
-            &self.bases[slim.bases as usize],
             self.level(slim).currency,
             &self.numbers(slim),
         )
@@ -321,34 +285,36 @@ pub(crate) fn are_alike(one: &Slim, shared: &Shared, other: &Slim, other_shared:
 {
     (one.day == other.day)
         & (one.kind == other.kind)
-        & shared.level(one).is(&other_shared.level(other))
-        & have_same_numbers(one, shared, other, other_shared)
+        & shared.level(one).is_printed_as(&other_shared.level(other))
+        & are_numbers_alike(one, shared, other, other_shared)
 }
 
-/// Whether two rows of the same level have the same numbers, which mostly stand in the rows.
+/// Whether two rows whose levels are printed alike have numbers that are, of which the rows have all but those of the level.
 #[inline(always)]
-fn have_same_numbers(one: &Slim, shared: &Shared, other: &Slim, other_shared: &Shared) -> bool
+fn are_numbers_alike(one: &Slim, shared: &Shared, other: &Slim, other_shared: &Shared) -> bool
     requires here { HasParts shared.now one.now }
     requires there { HasParts other_shared.now other.now }
-    ensures { result ≡ true → level_at shared.now one.now ≡ level_at other_shared.now other.now
-        → full_numbers shared.now one.now ≡ full_numbers other_shared.now other.now }
+    ensures { result ≡ true → printed_level (level_at shared.now one.now) ≡ printed_level (level_at other_shared.now other.now)
+        → printed_numbers (full_numbers shared.now one.now) ≡ printed_numbers (full_numbers other_shared.now other.now) }
 {
     if (one.long == 0) & (other.long == 0) {
         (one.payoff == other.payoff) & (one.ipac == other.ipac)
     } else {
-        have_same_full_numbers(one, shared, other, other_shared)
+        are_full_numbers_alike(one, shared, other, other_shared)
     }
 }
 
-/// Whether two rows have the same numbers, where some stand beside the rows.
+/// Whether the numbers of two rows are printed alike, where some stand beside the rows.
 #[cold]
 #[inline(never)]
-fn have_same_full_numbers(one: &Slim, shared: &Shared, other: &Slim, other_shared: &Shared) -> bool
+fn are_full_numbers_alike(one: &Slim, shared: &Shared, other: &Slim, other_shared: &Shared) -> bool
     requires here { HasParts shared.now one.now }
     requires there { HasParts other_shared.now other.now }
-    ensures { result ≡ true → full_numbers shared.now one.now ≡ full_numbers other_shared.now other.now }
+    ensures { result ≡ true → printed_numbers (full_numbers shared.now one.now) ≡ printed_numbers (full_numbers other_shared.now other.now) }
 {
-    shared.numbers(one).are(&other_shared.numbers(other))
+    shared
+        .numbers(one)
+        .are_printed_as(&other_shared.numbers(other))
 }
 
 /// Numbers that fit 64 bits, or else the place of the longer ones, counted from 1.
@@ -388,20 +354,8 @@ fn place_rest(rests: &mut Vec<Rest>, state: &State) -> Result<u8, NoMemory>
     if count > 0 && rests[count - 1].is_of(state) {
         return numbered(count - 1);
     }
+    // These are large, and seldom more than two.
     added(rests, Rest::of(state), count.max(1))
-}
-
-/// The place of a state's bases, which are added unless they are the last ones.
-#[inline(always)]
-fn place_bases(list: &mut Vec<Bases>, state: &State) -> Result<u8, NoMemory>
-    ensures there { IfOk result (λ place. slice_get list.new.items place ≡ Some (bases_of state.now)) }
-    ensures others { (list.new.items ≡ list.old.items) ⊎ (list.new.items ≡ list.old.items ++ bases_of state.now ∷ []) }
-{
-    let count = list.len();
-    if count > 0 && list[count - 1].are_of(state) {
-        return numbered(count - 1);
-    }
-    added(list, Bases::of(state), more_room(count))
 }
 
 /// The place of a level, which is added unless it is the last one.
@@ -434,16 +388,25 @@ fn added<T: Copy>(list: &mut Vec<T>, one: T, more: usize) -> Result<u8, NoMemory
     Ok(place)
 }
 
-/// For how many more a list of small parts gets room where it is full. Of the first there is mostly no second, so it has room
-/// alone; behind it there is room for 16, and then for all of a chunk.
+/// For how many more a list gets room where it is full. Of the first there is mostly no second, so it has room alone; behind it there
+/// is room for 16, and then for twice as many each time.
 fn more_room(count: usize) -> usize
     ensures { 1 ≤ result }
 {
     match count {
         0 => 1,
         1 => 15,
-        _ => 48,
+        _ => count,
     }
+}
+
+/// A copy of a list, with room for so many.
+pub(crate) fn copied<T: Copy>(alloc: Global, list: &[T], room: usize) -> Result<Vec<T>, NoMemory>
+    ensures { IfOk result (λ copy. copy.items ≡ list.now) }
+{
+    let mut copy = Vec::with_capacity(alloc, room)?;
+    copy.extend_from_slice(list)?;
+    Ok(copy)
 }
 
 /// A place as a number of 8 bits. The rows of a chunk are so few that they need no more.

@@ -5,7 +5,7 @@ ghost use Rattle.act_num.specs.Number.{InRange};
 
 use crate::Fixed;
 use crate::fixed::{product, sum};
-use crate::rounding::{nearest_factor, rnd, rnd_by_ones};
+use crate::rounding::{estimated_by_factor, rnd, rnd_by_ones};
 use std::marker::Model;
 
 /// The units of the factor 1.
@@ -90,7 +90,7 @@ fn estimated_product(a: i128, b: i128) -> Option<u64>
     ensures { IfSome result (λ units. Some (pos units) ≡ times_of a b) }
 {
     if 0 <= a && a < PAST_63 && 0 <= b && b < PAST_63 {
-        nearest_factor(u128::from(a as u64) * u128::from(b as u64))
+        estimated_by_factor(u128::from(a as u64) * u128::from(b as u64))
     } else {
         None
     }

@@ -3,7 +3,7 @@ ghost use Rattle.std.specs.Prelude.{◌≡◌, ◌≤◌, ◌*◌, ◌^◌, ℤ,
 ghost use Rattle.std.specs.Int.{int_max, int_min};
 ghost use Rattle.act_num.specs.Number.{InRange, largest, number_in_range, one, rnd, add_of, sub_of, mul_of, mul_frac_of, ratio_of, clip_of};
 
-use crate::rounding::{nearest_estimated, rnd, rnd_by_ones};
+use crate::rounding::{estimated_by_ones, rnd, rnd_by_ones};
 use std::cmp::Ordering;
 use std::marker::Model;
 
@@ -213,7 +213,7 @@ fn by_ones(units: i128, den: u64) -> Fixed
     }
 }
 
-/// The units of the product of two words with the fraction `num/den`, where an estimate shows them.
+/// The units of the product of two numbers with the fraction `num/den`, where they are words and an estimate shows them.
 #[inline]
 fn estimated_frac(a: i128, b: i128, num: i64, den: u64) -> Option<i128>
     requires num_in { pos 0 ≤ℤ num }
@@ -227,7 +227,7 @@ fn estimated_frac(a: i128, b: i128, num: i64, den: u64) -> Option<i128>
     }
     let (a, b) = (a as i64, b as i64);
     let product = product_of_words(a.unsigned_abs(), b.unsigned_abs(), num as u64)?;
-    let nearest = i128::from(nearest_estimated(product, den)?);
+    let nearest = i128::from(estimated_by_ones(product, den)?);
     Some(if (a < 0) == (b < 0) {
         nearest
     } else {
@@ -235,7 +235,7 @@ fn estimated_frac(a: i128, b: i128, num: i64, den: u64) -> Option<i128>
     })
 }
 
-/// The product of two words and a short count, where that is in range.
+/// The product of two words and a count, or None where it may be out of range.
 #[inline]
 fn product_of_words(a: u64, b: u64, count: u64) -> Option<u128>
     ensures value { IfSome result (λ product. product ≡ a * b * count) }

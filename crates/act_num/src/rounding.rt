@@ -143,7 +143,7 @@ fn rounds_up(quotient: u64, rest: u64, d: u64) -> bool
 /// The whole number nearest to `n / (den * 10^9)`, where an estimate shows which one it is: not near ties, and not past
 /// 92 bits.
 #[inline]
-pub(crate) fn nearest_estimated(n: u128, den: u64) -> Option<u64>
+pub(crate) fn estimated_by_ones(n: u128, den: u64) -> Option<u64>
     requires den_above { 1 ≤ den }
     requires den_in { den ≤ 133_590 }
     ensures { IfSome result (λ nearest. nearest ≡ nearest_number n (den * one)) }
@@ -174,7 +174,7 @@ fn estimated_ones(n: u128) -> u64
 /// The whole number nearest to `n / 10^12`, where an estimate shows which one it is: not near ties, and not past 86 bits.
 /// The estimate lacks a little, so with a half its whole part is that number, if the fraction isn't near the next whole.
 #[inline]
-pub(crate) fn nearest_factor(n: u128) -> Option<u64>
+pub(crate) fn estimated_by_factor(n: u128) -> Option<u64>
     ensures { IfSome result (λ nearest. nearest ≡ nearest_number n factor_one) }
 {
     if n >= PAST_FRACTIONS {

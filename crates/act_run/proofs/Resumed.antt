@@ -13,27 +13,31 @@ use Rattle.act_profile.specs.Run.{row_of, rows_from, run_over, with_row}
 use Rattle.act_profile.specs.Steps.{currency_of, start_of, step_of}
 use Rattle.act_profile.specs.Stops.{chosen_close}
 use Rattle.act_run.specs.Limits.{before_limit, closed_by, limit_of}
-use Rattle.act_run.specs.Resuming.{BeginsWith, state_behind, with_rows}
+use Rattle.act_run.specs.Resuming.{BeginsWith, state_behind, state_or_start, with_rows}
 use Rattle.act_run.specs.declared.limit.Limit.{Limit}
 use Rattle.act_run.proofs.Limited.{closed_by_rows, rows_over, run_by_rows, run_stopped}
 use Rattle.act_run.proofs.TakenRows.{Step, rows_of_cons, taken_rows}
 
 -- ---- the state behind rows
 
-pub behind_none : (first : State) (rows : List Row) → (1 ≤ length rows → ⊥) → first ≡ state_behind first rows
+-- from a state on it is the state behind them
+from_state : (s : State) (rows : List Row) → state_or_start (Ok s) rows ≡ Ok (state_behind s rows)
 unfolding state_behind
-behind_none first [] none = refl
-behind_none first (row ∷ rows) none = absurd (none (omega arith))
+from_state s [] = refl
+from_state s (row ∷ rows) = refl
 
-pub behind_last : (first : State) (rows : List Row) (last : ℕ) (row : Row) → length rows ≡ suc last → slice_get rows last ≡ Some row → row.state ≡ state_behind first rows
+pub behind_last : (start : Result State Stop) (rows : List Row) (last : ℕ) (row : Row) → slice_get rows last ≡ Some row → Ok row.state ≡ state_or_start start (take (suc last) rows)
 unfolding state_behind
-behind_last first [] last row count here = absurd (omega (arith, count))
-behind_last first (r ∷ []) zero row count here =
+behind_last start [] last row here = absurd (cc)
+behind_last start (r ∷ rows) zero row here =
     let same : r ≡ row = cc in
-    ap (λ (x : Row). x.state) (sym same)
-behind_last first (r ∷ []) (suc last) row count here = absurd (omega (arith, count))
-behind_last first (r ∷ s ∷ rows) zero row count here = absurd (omega (arith, count))
-behind_last first (r ∷ s ∷ rows) (suc last) row count here = behind_last r.state (s ∷ rows) last row (omega (arith, count)) here
+    ap (λ (x : Row). Ok x.state) (sym same)
+behind_last start (r ∷ rows) (suc last) row here = behind_last (Ok r.state) rows last row here ∙ from_state r.state (take (suc last) rows)
+
+-- where there is none, there are no rows and no starting state
+pub no_state : (start : Result State Stop) (rows : List Row) (stop : Stop) → state_or_start start rows ≡ Err stop → start ≡ Err stop
+no_state start [] stop is = is
+no_state start (row ∷ rows) stop is = absurd (cc)
 
 -- ---- going on
 
@@ -92,7 +96,7 @@ goes_on_before terms plan entries children first limit events rows starts is are
 pub resumed_run : (terms : Terms) (plan : EventPlan) (entries : List Obs) (children : List Stream) (first : State) (limit : Option Limit) (events : List Event) (rows : List Row) (count : ℕ)
     (kept : List Row) (state : State) (before left : List Event) (run : Stream) → start_of terms plan ≡ Ok first
     → limit ≡ limit_of terms.common terms.kind entries (chosen_close children) → events ≡ events_of terms plan entries children → BeginsWith (run_over terms plan entries children) (take count rows)
-    → count ≤ length rows → kept ≡ take count rows → state ≡ state_behind first kept → before ≡ before_limit limit events → left ≡ drop count before
+    → count ≤ length rows → kept ≡ take count rows → state ≡ state_behind first (take count rows) → before ≡ before_limit limit events → left ≡ drop count before
     → run ≡ with_rows kept (rows_over terms plan entries children state left) → closed_by limit run ≡ run_over terms plan entries children
 resumed_run terms plan entries children first limit events rows count kept state before left run starts is are begins within keeps behind ends leaves makes =
     let goes = goes_on_before terms plan entries children first limit events (take count rows) starts is are begins in
@@ -100,7 +104,7 @@ resumed_run terms plan entries children first limit events rows count kept state
     let size : length (take count rows) ≡ count = length-take-le count rows within in
     let all : run ≡ over first (before_limit limit events) =
     makes ∙ ap (λ (k : List Row). with_rows k (over state left)) keeps
-    ∙ ap (λ (s : State). with_rows (take count rows) (over s left)) (behind ∙ ap (state_behind first) keeps)
+    ∙ ap (λ (s : State). with_rows (take count rows) (over s left)) behind
     ∙ ap (λ (es : List Event). with_rows (take count rows) (over (state_behind first (take count rows)) es)) (leaves ∙ ap (drop count) ends ∙ ap (λ (n : ℕ). drop n (before_limit limit events)) (sym size))
     ∙ goes.is in
     ap (closed_by limit) all ∙ run_by_rows terms plan entries children first limit events starts is are
@@ -119,9 +123,33 @@ take-none zero rows none = refl
 take-none (suc n) [] none = refl
 take-none (suc n) (row ∷ rows) none = absurd (cc)
 
--- a run without rows begins with none
-pub none_first : (terms : Terms) (plan : EventPlan) (entries : List Obs) (children : List Stream) (stop : Stop) (rows : List Row) (count : ℕ) → start_of terms plan ≡ Err stop → BeginsWith (run_over terms plan entries children) (take count rows) → count ≤ length rows → count ≡ 0
-none_first terms plan entries children stop rows count stops begins within =
+-- a run without a starting state begins with no rows
+no_first : (terms : Terms) (plan : EventPlan) (entries : List Obs) (children : List Stream) (stop : Stop) (rows : List Row) → start_of terms plan ≡ Err stop → BeginsWith (run_over terms plan entries children) rows → rows ≡ []
+no_first terms plan entries children stop rows stops begins =
     let run = run_over terms plan entries children in
     let none : run.rows ≡ [] = ap (λ (r : Stream). r.rows) (sym (run_stopped terms plan entries children stop stops)) in
-    sym (length-take-le count rows within) ∙ ap length (sym begins.first ∙ take-none (length (take count rows)) run.rows none)
+    sym begins.first ∙ take-none (length rows) run.rows none
+
+pub none_first : (terms : Terms) (plan : EventPlan) (entries : List Obs) (children : List Stream) (stop : Stop) (rows : List Row) (count : ℕ) → start_of terms plan ≡ Err stop → BeginsWith (run_over terms plan entries children) (take count rows) → count ≤ length rows → count ≡ 0
+none_first terms plan entries children stop rows count stops begins within =
+    sym (length-take-le count rows within) ∙ ap length (no_first terms plan entries children stop (take count rows) stops begins)
+
+-- so a state behind a run's first rows comes of a starting state
+pub record IsBegun (start : Result State Stop) (rows : List Row) (state : State) : Type 0 where
+  pub first : State
+  pub starts : start ≡ Ok first
+  pub behind : state ≡ state_behind first rows
+
+begun_by : (start : Result State Stop) (rows : List Row) (state : State) → ((stop : Stop) → start ≡ Err stop → rows ≡ []) → state_or_start start rows ≡ Ok state → IsBegun start rows state
+begun_by (Ok first) rows state none is =
+    let same : Ok (state_behind first rows) ≡ Ok state = sym (from_state first rows) ∙ is in
+    record { first = first; starts = refl; behind = cc }
+begun_by (Err stop) [] state none is = absurd (cc)
+begun_by (Err stop) (row ∷ rows) state none is =
+    let no : row ∷ rows ≡ [] = none stop refl in
+    absurd (cc)
+
+pub begun : (terms : Terms) (plan : EventPlan) (entries : List Obs) (children : List Stream) (rows : List Row) (state : State) → BeginsWith (run_over terms plan entries children) rows
+    → state_or_start (start_of terms plan) rows ≡ Ok state → IsBegun (start_of terms plan) rows state
+begun terms plan entries children rows state begins is =
+    begun_by (start_of terms plan) rows state (λ stop stops. no_first terms plan entries children stop rows stops begins) is

@@ -1,10 +1,11 @@
 -- A run that goes on from rows that are kept of another. This profile's own.
-use Rattle.std.specs.Prelude.{◌≡◌, ◌≤ℤ◌, ℕ, ℤ, List, [], ◌∷◌, ◌++◌, length, max, min, take, Option, Some, None}
+use Rattle.std.specs.Prelude.{◌≡◌, ◌≤ℤ◌, ℕ, ℤ, List, [], ◌∷◌, ◌++◌, length, max, min, take, Option, Some, None, Result, Ok}
 use Rattle.std.specs.List.{filter}
 use Rattle.act_date.specs.Civil.{last_day}
 use Rattle.act_model.specs.Run.{Stream}
 use Rattle.act_model.specs.declared.observed.Obs.{Obs}
 use Rattle.act_model.specs.declared.run.Row.{Row}
+use Rattle.act_model.specs.declared.run.Stop.{Stop}
 use Rattle.act_model.specs.declared.state.State.{State}
 use Rattle.act_profile.specs.Kept.{KeptRows, kept_of}
 use Rattle.act_profile.specs.Reads.{codes_read, contracts_read, cut_of, touches}
@@ -21,6 +22,11 @@ with_rows rows run = record { rows = rows ++ run.rows; close = run.close }
 unfoldable pub state_behind : State → List Row → State
 state_behind first [] = first
 state_behind first (row ∷ rows) = state_behind row.state rows
+
+-- the same of a run's first rows, where of none it is what the contract begins with
+abbrev pub state_or_start : Result State Stop → List Row → Result State Stop
+state_or_start start [] = start
+state_or_start start (row ∷ rows) = Ok (state_behind row.state rows)
 
 -- these rows are the first of a run
 pub record BeginsWith (run : Stream) (rows : List Row) : Type 0 where

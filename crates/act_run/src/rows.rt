@@ -4,40 +4,31 @@ ghost use Rattle.std.specs.Arc.{arc_value};
 ghost use Rattle.act_profile.specs.Built.{IsBuilt};
 ghost use Rattle.act_profile.specs.Plan.{plan_of};
 ghost use Rattle.act_profile.specs.Run.{close_of, rows_from, stopped_at_once};
-ghost use Rattle.act_profile.specs.Steps.{currency_of, step_of};
-ghost use Rattle.act_run.specs.Resuming.{state_behind, with_rows};
+ghost use Rattle.act_profile.specs.Steps.{currency_of, start_of, step_of};
+ghost use Rattle.act_run.specs.Resuming.{state_or_start, with_rows};
 
-use act_contract::{advance, currency_of};
+use act_contract::{advance, currency_of, start};
 use act_model::{Close, Event, Observed, Plan, RowHead, Rows, Run, State, Stop, Terms};
 use act_num::{Fixed, NoMemory, Steps};
 use std::alloc::Global;
 use std::sync::Arc;
 use std::sync::ledger::Ledger;
 
-/// The first rows of a list, so many, with room for `room` rows in all.
-pub(crate) fn first_rows(
-    alloc: Global,
+/// The state behind the first rows of a run, so many: that of the last of them, and of none what the contract begins with.
+pub(crate) fn state_behind(
+    terms: &Terms,
+    plan: &Plan,
     rows: &Rows,
     count: usize,
-    room: usize,
-) -> Result<Rows, NoMemory>
-    requires { count ≤ length rows.now }
-    ensures { IfOk result (λ first. first ≡ take count rows.now) }
+) -> Result<State, Stop>
+    requires built { IsBuilt terms.now.kind }
+    requires plan { plan_of terms.now ≡ Ok plan.now }
+    requires within { count ≤ length rows.now }
+    ensures { result ≡ state_or_start (start_of terms.now plan.now) (take count rows.now) }
 {
-    if count == 0 {
-        Rows::with_capacity(alloc, room)
-    } else {
-        rows.first(alloc, count, room)
-    }
-}
-
-/// The state behind rows: that of the last, and of none the starting state.
-pub(crate) fn state_behind(first: State, rows: &Rows) -> State
-    ensures { result ≡ state_behind first rows.now }
-{
-    match rows.count().checked_sub(1) {
-        Some(last) => rows.row(last).state,
-        None => first,
+    match count.checked_sub(1) {
+        Some(last) => Ok(rows.row(last).state),
+        None => start(terms, plan),
     }
 }
 

@@ -14,8 +14,7 @@ ghost use Rattle.act_swap.specs.Children.{AreInDayOrder, RunsAreInDayOrder};
 use crate::events::{events_of, observed_as, planned_events};
 use crate::kept::kept_count;
 use crate::limit::{Limit, limit_of};
-use crate::rows::{first_rows, rows_behind, state_behind, stopped_at_once};
-use act_contract::start;
+use crate::rows::{rows_behind, state_behind, stopped_at_once};
 use act_date::Day;
 use act_model::{Close, Event, Observed, Plan, Rows, Run, Terms};
 use act_num::{NoMemory, Steps};
@@ -103,52 +102,42 @@ fn run_behind<O: Observed, L: Ledger>(
     ensures in_day_order { IfOk result (λ run. AreInDayOrder run.rows) }
     ensures ticked { IfOk result (λ run. steps.new + count ≡ steps.old + length run.rows) }
 {
-    let own = seen.events_of(alloc, observed_as(&terms.common))?;
-    if let Some(events) = planned_events(terms, plan, &own) {
-        return run_of_events(
-            alloc, terms, plan, children, rows, count, seen, steps, events,
-        );
-    }
-    let events = events_of(alloc, terms, plan, &own, children, seen)?;
-    drop(own);
-    run_of_events(
-        alloc, terms, plan, children, rows, count, seen, steps, &events,
-    )
-}
-
-/// The same run, where its events are known.
-fn run_of_events<O: Observed, L: Ledger>(
-    alloc: Global,
-    terms: &Terms,
-    plan: &Plan,
-    children: &[Arc<Run, Global>],
-    rows: &Rows,
-    count: usize,
-    seen: &O,
-    steps: &mut Steps<L>,
-    events: &[Event],
-) -> Result<Run, NoMemory>
-    requires built { IsBuilt terms.now.kind }
-    requires plan { plan_of terms.now ≡ Ok plan.now }
-    requires children { RunsAreInDayOrder (map arc_value children.now) }
-    requires within { count ≤ length rows.now }
-    requires same { BeginsWith (run_over terms.now plan.now (O.entries seen.now) (map arc_value children.now)) (take count rows.now) }
-    requires events { events.now ≡ events_of terms.now plan.now (O.entries seen.now) (map arc_value children.now) }
-    ensures run { IfOk result (λ run. run ≡ run_over terms.now plan.now (O.entries seen.now) (map arc_value children.now)) }
-    ensures in_day_order { IfOk result (λ run. AreInDayOrder run.rows) }
-    ensures ticked { IfOk result (λ run. steps.new + count ≡ steps.old + length run.rows) }
-{
+    let mut made = Vec::new(alloc);
+    let events = events_to_run(alloc, terms, plan, children, seen, &mut made)?;
     let limit = limit_of(alloc, terms, children, seen)?;
-    match start(terms, plan) {
-        Ok(first) => {
+    match state_behind(terms, plan, rows, count) {
+        Ok(state) => {
             let before = before_limit(&limit, events);
-            let kept = first_rows(alloc, rows, count, before.len())?;
-            let state = state_behind(first, &kept);
+            let kept = rows.first(alloc, count, before.len())?;
             let left = events_behind(before, count);
             let run = rows_behind(terms, plan, kept, state, left, children, seen, steps)?;
             Ok(closed_by(&limit, run))
         }
         Err(stop) => Ok(stopped_at_once(alloc, stop)),
+    }
+}
+
+/// The events of a contract that count: a part of its plan, or else a list of their own, which is put into `made`.
+fn events_to_run<'a, O: Observed>(
+    alloc: Global,
+    terms: &Terms,
+    plan: &'a Plan,
+    children: &[Arc<Run, Global>],
+    seen: &O,
+    made: &'a mut Vec<Event>,
+) -> Result<&'a [Event], NoMemory>
+    requires built { IsBuilt terms.now.kind }
+    requires plan { plan_of terms.now ≡ Ok plan.now }
+    requires children { RunsAreInDayOrder (map arc_value children.now) }
+    ensures { IfOk result (λ events. events.now ≡ events_of terms.now plan.now (O.entries seen.now) (map arc_value children.now)) }
+{
+    let own = seen.events_of(alloc, observed_as(&terms.common))?;
+    match planned_events(terms, plan, &own) {
+        Some(events) => Ok(events),
+        None => {
+            *made = events_of(alloc, terms, plan, &own, children, seen)?;
+            Ok(made)
+        }
     }
 }
 

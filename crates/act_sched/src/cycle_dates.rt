@@ -5,7 +5,7 @@ ghost use Rattle.act_sched.specs.Schedule.{cycle_date, is_in_months, keeps_month
 
 use act_date::{Anchor, Cycle, Day, MonthRule, Unit, month_end};
 
-/// The day so many cycles after the anchor, moved by the rule, or None past 2299.
+/// The day so many cycles after the anchor, moved by the rule, or None past 2299. That the anchor is a day is told for its callers.
 #[tactic(auto, unfolding(crate::specs::Schedule::cycle_date))]
 pub(crate) fn cycle_date(anchor: &Anchor, cycle: Cycle, rule: MonthRule, k: u32) -> Option<Day>
     ensures value { result ≡ cycle_date anchor.now cycle rule k }

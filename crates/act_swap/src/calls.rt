@@ -78,7 +78,7 @@ pub fn step<O: Observed, L: Ledger>(
 {
     let mut next = *state;
     let taken = advance(terms, plan, &mut next, event, children, seen, steps);
-    with_state(taken, next)
+    with_state(next, taken)
 }
 
 /// Takes the step of an event of a SWPPV, a SWAPS or a CAPFL, as [`step`] does, in place: the state becomes the one after the

@@ -1,7 +1,7 @@
 -- Lines one behind the other, and where they end.
 use Rattle.std.proofs.Common.{◌≡◌, ℕ, zero, suc, ◌+◌, ◌<◌, ◌≤◌, List, [], ◌∷◌, ◌++◌, length, map, take, drop, Some, unwrap_or, refl, sym, ap, ap₂, ◌∙◌, arith}
 use Rattle.std.proofs.Math.Seq.{take-append_seam}
-use Rattle.std.proofs.lemmas.List.{append-nil, length-append, length-map, length-take-le, take-append-drop, take-map, take_more}
+use Rattle.std.proofs.lemmas.List.{append-nil, length-append, length-map, length-take, length-take-le, take-append-drop, take-map, take_more}
 use Rattle.std.proofs.lemmas.List.Folds.{flat_map-map}
 use Rattle.std.proofs.lemmas.Grind.{flat_map-append}
 use Rattle.std.proofs.lemmas.Option.{get_or_from_slice_get, slice_get_within}
@@ -121,3 +121,11 @@ lines_more names rows text ends text' ends' row are there e e' =
           ∙ sym (ends_more f 0 before row)
           ∙ ap (λ rows. ends_of 0 (map f rows)) (sym more);
     }
+
+-- where a line begins, there is text up to there
+pub start_within : (names : NameLists) (rows : List Row) (text ends : List ℕ) (same start : ℕ) → AreLines names rows text ends → same ≤ length rows → start_at ends same ≡ Some start → start ≤ length text
+start_within names rows text ends same start are within starts =
+    let f = row_text names in
+    let long = starts_at f rows text ends are.together are.each same start starts within in
+    let before = text_before f rows text ends are.together are.each same start starts within in
+    omega (arith, long, ap length before, length-take start text)

@@ -1,3 +1,4 @@
 pub mod Again
+pub mod Framed
 pub mod KeptLines
 pub mod PutTogether

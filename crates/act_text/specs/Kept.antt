@@ -9,10 +9,12 @@ use Rattle.act_model.specs.Run.{Stream}
 use Rattle.act_model.specs.declared.run.Row.{Row}
 use Rattle.act_text.specs.Lines.{row_text}
 
--- rows, and the names that their lines are written with
+-- rows, the names that their lines are written with, and the bytes in front of the lines and behind them
 pub record Lines : Type 0 where
   pub names : NameLists
+  pub front : List ℕ
   pub rows : List Row
+  pub back : List ℕ
 
 -- lines that are written with these names
 abbrev pub AreWrittenWith : NameLists → List Lines → Type 0

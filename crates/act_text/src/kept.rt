@@ -1,12 +1,12 @@
 //! Lines of rows that are kept for when they come again.
-ghost use Rattle.std.specs.Prelude.{◌≡◌, ◌⊎◌, ℕ, ◌++◌, ◌∷◌, [], ◌≤◌, ◌<◌, length, map, take, Some, OnOk, OnErr, slice_get};
+ghost use Rattle.std.specs.Prelude.{◌≡◌, ◌⊎◌, ℕ, ◌++◌, ◌∷◌, [], ◌+◌, ◌-◌, ◌≤◌, ◌<◌, drop, length, map, take, Some, OnOk, OnErr, slice_get};
 ghost use Rattle.std.specs.Arc.{arc_value};
 ghost use Rattle.std.specs.List.{flat_map};
 ghost use Rattle.act_text.specs.Kept.{AreLines, ArePrintedAlike, start_at};
-ghost use Rattle.act_text.specs.Lines.{row_text};
+ghost use Rattle.act_text.specs.Lines.{close_text, row_text};
 
-use crate::row::RowPrinter;
-use act_model::{Names, Rows, Run};
+use crate::row::{RowPrinter, close_line};
+use act_model::{Close, Names, Rows, Run};
 use act_num::NoMemory;
 use std::alloc::Global;
 use std::marker::Model;
@@ -15,30 +15,37 @@ use std::sync::Arc;
 /// Most rows' lines have no more bytes than this.
 const USUAL_LINE: usize = 80;
 
-/// The lines of the first rows of a run, one behind the other. Where the lines of another run are wanted which begins with rows
-/// that are found to be printed alike, as after a correction, these lines stay.
+/// The lines of the first rows of a run, one behind the other, with what stands in front of them and behind, so that all of it
+/// is written at once. Where the lines of another run are wanted which begins with rows that are found to be printed alike, as
+/// after a correction, these lines stay.
 #[derive(Drop)]
 pub struct RowLines<'a> {
     names: &'a Names,
     run: Option<Arc<Run, Global>>,
+    /// What stands in front, the lines, and what stands behind.
     text: Vec<u8>,
+    /// Where the lines begin.
+    begin: usize,
+    /// Where the lines end.
+    end: usize,
+    /// Where each line ends, counted from where the lines begin.
     ends: Vec<usize>,
 }
 
 impl<'a> Model for RowLines<'a> {
-    ghost use Rattle.std.specs.Prelude.{◌≤◌, length, take};
+    ghost use Rattle.std.specs.Prelude.{◌≤◌, drop, length, take};
     ghost use Rattle.act_text.specs.Kept.{AreLines, Lines, rows_of};
 
     ghost Value = { Lines };
 
-    ghost view = { λ l. record { names = l.names.now; rows = take (length l.ends.items) (rows_of l.run) } };
+    ghost view = { λ l. record { names = l.names.now; front = take l.begin l.text.items; rows = take (length l.ends.items) (rows_of l.run); back = drop l.end l.text.items } };
 
-    ghost invariant = { λ l. (length l.ends.items ≤ length (rows_of l.run))
-        × AreLines l.names.now (take (length l.ends.items) (rows_of l.run)) l.text.items l.ends.items };
+    ghost invariant = { λ l. (length l.ends.items ≤ length (rows_of l.run)) × (l.begin ≤ l.end) × (l.end ≤ length l.text.items)
+        × AreLines l.names.now (take (length l.ends.items) (rows_of l.run)) (drop l.begin (take l.end l.text.items)) l.ends.items };
 }
 
 impl<'a> RowLines<'a> {
-    /// No lines yet. They are written with these names.
+    /// No lines yet, and nothing in front of them. They are written with these names.
     pub fn new(alloc: Global, names: &'a Names) -> RowLines<'a>
         ensures names { result.names ≡ names.now }
         ensures rows { result.rows ≡ [] }
@@ -47,36 +54,72 @@ impl<'a> RowLines<'a> {
             names,
             run: None,
             text: Vec::new(alloc),
+            begin: 0,
+            end: 0,
             ends: Vec::new(alloc),
         }
     }
 
-    /// The lines, one behind the other.
+    /// All of the text: what stands in front, the lines one behind the other, and what stands behind.
     #[inline]
     pub fn text(&self) -> &[u8]
-        ensures { result.now ≡ flat_map (row_text self.now.names) self.now.rows }
+        ensures { result.now ≡ self.now.front ++ flat_map (row_text self.now.names) self.now.rows ++ self.now.back }
     {
         &self.text
     }
 
+    /// Puts other bytes in front of the lines. Where memory runs out, the lines stay.
+    pub fn put_front(&mut self, front: &[u8]) -> Result<(), NoMemory>
+        ensures names { self.new.names ≡ self.old.names }
+        ensures rows { self.new.rows ≡ self.old.rows }
+        ensures front { OnOk result (self.new.front ≡ front.now) }
+    {
+        self.text.truncate(self.end);
+        put_first(&mut self.text, self.begin, front)?;
+        self.begin = front.len();
+        self.end = self.text.len();
+        Ok(())
+    }
+
+    /// Puts behind the lines how rows close, in place of what stood there. Where memory runs out, the lines stay.
+    pub fn put_close(&mut self, close: &Close) -> Result<(), NoMemory>
+        ensures names { self.new.names ≡ self.old.names }
+        ensures front { self.new.front ≡ self.old.front }
+        ensures rows { self.new.rows ≡ self.old.rows }
+        ensures back { OnOk result (self.new.back ≡ close_text self.old.names close.now) }
+    {
+        self.text.truncate(self.end);
+        close_line(self.names, close, &mut self.text)
+    }
+
     /// Makes them the lines of a run's rows, of which the first, so many, are known to be the same. Those of the first rows stay,
-    /// as far as rows are known or found to be printed alike. Where memory runs out, they are the lines of the run's first rows,
-    /// or, where the run couldn't be shared, all as before.
+    /// as far as rows are known or found to be printed alike. Nothing stands behind them then. Where memory runs out, they are the
+    /// lines of the run's first rows, or, where the run couldn't be shared, all as before.
     pub fn renew(&mut self, run: &Arc<Run, Global>, known: usize) -> Result<(), NoMemory>
         requires here { known ≤ length self.old.rows }
         requires there { known ≤ length (arc_value run.now).rows }
         requires same { take known self.old.rows ≡ take known (arc_value run.now).rows }
         ensures names { self.new.names ≡ self.old.names }
+        ensures front { self.new.front ≡ self.old.front }
         ensures rows { OnOk result (self.new.rows ≡ (arc_value run.now).rows) }
         ensures fewer { OnErr result ((self.new ≡ self.old)
             ⊎ ((count : ℕ) × (self.new.rows ≡ take count (arc_value run.now).rows))) }
     {
         let kept = Arc::try_clone(run)?;
         let same = self.count_alike(&run.rows, known);
-        self.text.truncate(start_of(&self.ends, same));
+        self.text.truncate(self.end);
+        self.text.truncate(self.begin + start_of(&self.ends, same));
         self.ends.truncate(same);
         self.run = Some(kept);
-        add_lines(self.names, &run.rows, &mut self.text, &mut self.ends)
+        let added = add_lines(
+            self.names,
+            &run.rows,
+            &mut self.text,
+            self.begin,
+            &mut self.ends,
+        );
+        self.end = self.text.len();
+        added
     }
 
     /// How many rows at the beginning are found to be printed alike, where the first, so many, are known to be the same.
@@ -107,24 +150,43 @@ fn start_of(ends: &[usize], place: usize) -> usize
     }
 }
 
-/// Adds the lines of the rows that have none yet. Where memory runs out, those of some of them.
+/// Puts other bytes in place of the first, so many. Where memory runs out, all is as before.
+fn put_first(text: &mut Vec<u8>, count: usize, first: &[u8]) -> Result<(), NoMemory>
+    requires { count ≤ length text.old.items }
+    ensures ok { OnOk result (text.new.items ≡ first.now ++ drop count text.old.items) }
+    ensures err { OnErr result (text.new.items ≡ text.old.items) }
+{
+    if &text[..count] == first {
+        return Ok(());
+    }
+    let mut whole = Vec::from_slice(*text.allocator(), first)?;
+    whole.extend_from_slice(&text[count..])?;
+    *text = whole;
+    Ok(())
+}
+
+/// Adds the lines of the rows that have none yet, where the lines begin at a place. Where memory runs out, those of some of them.
 fn add_lines(
     names: &Names,
     rows: &Rows,
     text: &mut Vec<u8>,
+    begin: usize,
     ends: &mut Vec<usize>,
 ) -> Result<(), NoMemory>
+    requires begin { begin ≤ length text.old.items }
     requires within { length ends.old.items ≤ length rows.now }
-    requires are { AreLines names.now (take (length ends.old.items) rows.now) text.old.items ends.old.items }
+    requires are { AreLines names.now (take (length ends.old.items) rows.now) (drop begin text.old.items) ends.old.items }
+    ensures begin { begin ≤ length text.new.items }
+    ensures front { take begin text.new.items ≡ take begin text.old.items }
     ensures within { length ends.new.items ≤ length rows.now }
-    ensures are { AreLines names.now (take (length ends.new.items) rows.now) text.new.items ends.new.items }
+    ensures are { AreLines names.now (take (length ends.new.items) rows.now) (drop begin text.new.items) ends.new.items }
     ensures all { OnOk result (length ends.new.items ≡ length rows.now) }
 {
     make_room(rows.count() - ends.len(), text, ends)?;
     let mut printer = RowPrinter::new(names);
     'lines: while ends.len() < rows.count() {
         printer.print(&rows.row(ends.len()));
-        add_line(printer.line(), text, ends)?;
+        add_line(printer.line(), text, begin, ends)?;
     }
     Ok(())
 }
@@ -139,15 +201,21 @@ fn make_room(count: usize, text: &mut Vec<u8>, ends: &mut Vec<usize>) -> Result<
     Ok(())
 }
 
-/// Adds a line. Where memory runs out, both are as before.
-fn add_line(line: &[u8], text: &mut Vec<u8>, ends: &mut Vec<usize>) -> Result<(), NoMemory>
+/// Adds a line, where the lines begin at a place. Where memory runs out, both are as before.
+fn add_line(
+    line: &[u8],
+    text: &mut Vec<u8>,
+    begin: usize,
+    ends: &mut Vec<usize>,
+) -> Result<(), NoMemory>
+    requires begin { begin ≤ length text.old.items }
     ensures text { OnOk result (text.new.items ≡ text.old.items ++ line.now) }
-    ensures ends { OnOk result (ends.new.items ≡ ends.old.items ++ length text.new.items ∷ []) }
+    ensures ends { OnOk result (ends.new.items ≡ ends.old.items ++ (length text.new.items - begin) ∷ []) }
     ensures unchanged { OnErr result ((text.new.items ≡ text.old.items) × (ends.new.items ≡ ends.old.items)) }
 {
     ends.reserve(1)?;
     text.extend_from_slice(line)?;
-    let Ok(()) = ends.push(text.len()) else {
+    let Ok(()) = ends.push(text.len() - begin) else {
         unreachable!()
     };
     Ok(())

@@ -1,9 +1,9 @@
-//! The lines of contracts' rows. Those that were written for an answer are kept for the next ones, whose rows are mostly the same.
-ghost use Rattle.std.specs.Prelude.{◌≡◌, IfOk, IfSome, OnOk, slice_get};
+//! The blocks of contracts. The lines of rows that were written for an answer are kept for the next ones, whose rows are mostly the same.
+ghost use Rattle.std.specs.Prelude.{◌≡◌, ◌++◌, IfOk, IfSome, OnOk, slice_get};
 ghost use Rattle.std.specs.Arc.{arc_value};
 ghost use Rattle.std.specs.List.{flat_map};
 ghost use Rattle.act_text.specs.Kept.{AreWrittenWith};
-ghost use Rattle.act_text.specs.Lines.{row_text};
+ghost use Rattle.act_text.specs.Lines.{close_text, row_text};
 ghost use Rattle.act_swap.specs.Children.{AreInDayOrder};
 ghost use Rattle.act_top.specs.Known.{IsKnown, IsKnownTo, IsRenewed};
 ghost use Rattle.act_top.specs.Written.{Writes, faults_after};
@@ -11,10 +11,10 @@ ghost use Rattle.act_top.specs.Written.{Writes, faults_after};
 use crate::writing::{Stop, write_text};
 use act_date::Day;
 use act_io::Sink;
-use act_model::{Names, Rows, Run};
+use act_model::{Close, Names, Rows, Run};
 use act_num::NoMemory;
 use act_run::kept_rows;
-use act_text::{RowLines, RowPrinter};
+use act_text::{RowLines, RowPrinter, close_line};
 use std::alloc::Global;
 use std::sync::Arc;
 
@@ -35,10 +35,12 @@ pub(crate) fn no_lines<'a>(
     Ok(kept)
 }
 
-/// Writes the lines of a contract's rows, and keeps them where there is a place for the contract. Where `cuts` tells of a contract,
-/// the kept lines are known to be those of its rows before the cut, here and in what calls it, and where that is None of all.
-pub(crate) fn write_rows<K: Sink>(
+/// Writes the block of a contract with its run, whose head is in `line`, and keeps its rows' lines where there is a place for the
+/// contract. Where `cuts` tells of a contract, the kept lines are known to be those of its rows before the cut, here and in what
+/// calls it, and where that is None of all.
+pub(crate) fn write_block_lines<K: Sink>(
     out: &mut K,
+    line: &mut Vec<u8>,
     names: &Names,
     kept: &mut [RowLines<'_>],
     cuts: &[Option<Day>],
@@ -47,16 +49,17 @@ pub(crate) fn write_rows<K: Sink>(
 ) -> Result<(), Stop>
     requires kept { AreWrittenWith names.now kept.old }
     requires known { IsKnown cuts.now kept.old contract (arc_value run.now) }
-    ensures text { Writes result (flat_map (row_text names.now) (arc_value run.now).rows) (K.written out.old) (K.written out.new) }
+    ensures text { Writes result (line.old.items ++ flat_map (row_text names.now) (arc_value run.now).rows ++ close_text names.now (arc_value run.now).close)
+        (K.written out.old) (K.written out.new) }
     ensures faults { K.faults out.new ≡ faults_after result (K.faults out.old) }
     ensures kept { AreWrittenWith names.now kept.new }
     ensures renewed { OnOk result (IsRenewed contract (arc_value run.now) kept.old kept.new) }
 {
     let place = contract as usize;
     if place < kept.len() {
-        write_kept_rows(out, &mut kept[place], cut_at(cuts, place), run)
+        write_kept_block(out, line, &mut kept[place], cut_at(cuts, place), run)
     } else {
-        write_new_rows(out, names, &run.rows)
+        write_new_block(out, line, names, run)
     }
 }
 
@@ -67,27 +70,47 @@ fn cut_at(cuts: &[Option<Day>], place: usize) -> Option<Option<Day>>
     cuts.get(place).copied()
 }
 
-/// Writes the lines of a run's rows together. Those that are kept of the run before aren't put together again, and where they
-/// are known to be this run's, its rows aren't looked at.
-fn write_kept_rows<K: Sink>(
+/// Writes a block by its head and its run, in one piece. The lines that are kept of the run before aren't put together again, and
+/// where they are known to be this run's, its rows aren't looked at.
+fn write_kept_block<K: Sink>(
     out: &mut K,
+    head: &[u8],
     lines: &mut RowLines<'_>,
     cut: Option<Option<Day>>,
     run: &Arc<Run, Global>,
 ) -> Result<(), Stop>
     requires order { IfSome cut (λ _. AreInDayOrder (arc_value run.now).rows) }
     requires known { IfSome cut (λ cut. IsKnownTo cut lines.old.rows (arc_value run.now)) }
-    ensures text { Writes result (flat_map (row_text lines.old.names) (arc_value run.now).rows) (K.written out.old) (K.written out.new) }
+    ensures text { Writes result (head.now ++ flat_map (row_text lines.old.names) (arc_value run.now).rows ++ close_text lines.old.names (arc_value run.now).close)
+        (K.written out.old) (K.written out.new) }
     ensures faults { K.faults out.new ≡ faults_after result (K.faults out.old) }
     ensures names { lines.new.names ≡ lines.old.names }
     ensures rows { OnOk result (lines.new.rows ≡ (arc_value run.now).rows) }
 {
+    lines.put_front(head)?;
     match cut {
         Some(None) => {}
         Some(cut) => lines.renew(run, kept_rows(run, cut))?,
         None => lines.renew(run, 0)?,
     }
+    lines.put_close(&run.close)?;
     write_text(out, lines.text())
+}
+
+/// Writes a block by its head, which is in `line`, and its run, and keeps no lines.
+fn write_new_block<K: Sink>(
+    out: &mut K,
+    line: &mut Vec<u8>,
+    names: &Names,
+    run: &Run,
+) -> Result<(), Stop>
+    ensures text { Writes result (line.old.items ++ flat_map (row_text names.now) run.now.rows ++ close_text names.now run.now.close)
+        (K.written out.old) (K.written out.new) }
+    ensures faults { K.faults out.new ≡ faults_after result (K.faults out.old) }
+{
+    write_text(out, line)?;
+    write_new_rows(out, names, &run.rows)?;
+    write_close(out, line, names, &run.close)
 }
 
 /// Writes the lines of rows, and keeps none.
@@ -101,4 +124,19 @@ fn write_new_rows<K: Sink>(out: &mut K, names: &Names, rows: &Rows) -> Result<()
         write_text(out, printer.line())?;
     }
     Ok(())
+}
+
+/// Writes the line of how rows close. `line` is room for it.
+fn write_close<K: Sink>(
+    out: &mut K,
+    line: &mut Vec<u8>,
+    names: &Names,
+    close: &Close,
+) -> Result<(), Stop>
+    ensures text { Writes result (close_text names.now close.now) (K.written out.old) (K.written out.new) }
+    ensures faults { K.faults out.new ≡ faults_after result (K.faults out.old) }
+{
+    line.clear();
+    close_line(names, close, line)?;
+    write_text(out, line)
 }

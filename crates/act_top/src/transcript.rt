@@ -20,14 +20,14 @@ use crate::by_cuts::write_lists_by_cuts;
 use crate::check::write_words;
 use crate::journal::{CALLER, ask_count};
 use crate::reading::Script;
-use crate::rows::{no_lines, write_rows};
+use crate::rows::{no_lines, write_block_lines};
 use crate::writing::{Stop, write_text};
 use act_board::Board;
 use act_date::Day;
 use act_io::Sink;
 use act_model::{Answer, Close, Item, Line, Names, Run};
 use act_print::{answer_head, answers_head, block_head, item_line, journal_head};
-use act_text::{RowLines, close_line};
+use act_text::RowLines;
 use itoa::Buffer;
 use std::alloc::Global;
 use std::sync::Arc;
@@ -376,40 +376,9 @@ fn write_run<K: Sink>(
     ensures kept { AreWrittenWith names.now kept.new }
     ensures renewed { OnOk result (IsRenewed contract (arc_value run.now) kept.old kept.new) }
 {
-    write_block_head(out, line, names, contract)?;
-    write_rows(out, names, kept, cuts, contract, run)?;
-    write_close(out, line, names, &run.close)
-}
-
-/// Writes the line above the rows of a contract.
-fn write_block_head<K: Sink>(
-    out: &mut K,
-    line: &mut Vec<u8>,
-    names: &Names,
-    contract: u32,
-) -> Result<(), Stop>
-    requires contract { contract < length names.now.contracts }
-    ensures text { Writes result (block_head_text names.now contract) (K.written out.old) (K.written out.new) }
-    ensures faults { K.faults out.new ≡ faults_after result (K.faults out.old) }
-{
     line.clear();
     block_head(names, contract, line)?;
-    write_text(out, line)
-}
-
-/// Writes the line of how rows close.
-fn write_close<K: Sink>(
-    out: &mut K,
-    line: &mut Vec<u8>,
-    names: &Names,
-    close: &Close,
-) -> Result<(), Stop>
-    ensures text { Writes result (close_text names.now close.now) (K.written out.old) (K.written out.new) }
-    ensures faults { K.faults out.new ≡ faults_after result (K.faults out.old) }
-{
-    line.clear();
-    close_line(names, close, line)?;
-    write_text(out, line)
+    write_block_lines(out, line, names, kept, cuts, contract, run)
 }
 
 /// Whether a run wasn't stopped.

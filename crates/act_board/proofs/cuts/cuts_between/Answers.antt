@@ -18,24 +18,22 @@ contracts-preserved c =
     let from = min c.args.one c.args.other in
     let to = max c.args.one c.args.other in
     let reads = c.reads.result.now in
-    let items : c.push.new.self.items ≡ c.contracts.cuts.items ++ c.in_range.result ∷ [] = c.in_ok-push.ensures.items in
-    let cut : c.in_range.result ≡ cut_of p c.contracts.contract book from to =
-    c.in_range.ensures.same
-    ∙ c.cut-cut.ensures.cut
-    ∙ (ap (λ (entries : List Obs). cut_by reads.codes reads.contracts entries c.min-from.result c.max-to.result) c.contracts.invariant.same
-    ∙ (ap (λ (f : ℕ). cut_by reads.codes reads.contracts book f c.max-to.result) c.min-from.ensures
-    ∙ (ap (λ (t : ℕ). cut_by reads.codes reads.contracts book from t) c.max-to.ensures
-    ∙ ap (λ (r : Readings). cut_by r.codes r.contracts book from to) c.reads.ensures.reads))) in
+    let found = c.in_ok-cut.cut in
+    let items : c.push.new.self.items ≡ c.contracts.cuts.items ++ found ∷ [] = c.in_ok-push.ensures.items in
+    let cut : found ≡ cut_of p c.contracts.contract book from to =
+    c.in_ok-cut.ensures.cut
+    ∙ (ap (λ (entries : List Obs). cut_by reads.codes reads.contracts entries from to) c.contracts.invariant.same
+    ∙ ap (λ (r : Readings). cut_by r.codes r.contracts book from to) c.reads.ensures.reads) in
     record {
-      count = omega (arith, ap length items, length_push c.contracts.cuts.items c.in_range.result, c.contracts.invariant.count);
-      each = λ d one at. elim (get-push_cases c.contracts.cuts.items c.in_range.result one d (ap (λ (xs : List (Option ℤ)). slice_get xs d) (sym items) ∙ at)) [
+      count = omega (arith, ap length items, length_push c.contracts.cuts.items found, c.contracts.invariant.count);
+      each = λ d one at. elim (get-push_cases c.contracts.cuts.items found one d (ap (λ (xs : List (Option ℤ)). slice_get xs d) (sym items) ∙ at)) [
         | inl old ↦ c.contracts.invariant.each d one old.1
         | inr new ↦ (
           sym new.1 ∙ cut ∙ ap (λ (k : ℕ). cut_of p k book from to) (sym (new.0 ∙ c.contracts.invariant.count)),
-          subst (λ (o : Option ℤ). IfSome o (λ day. day ≤ℤ last_day)) new.1 c.in_range.ensures.in_range,
+          subst (λ (o : Option ℤ). IfSome o (λ day. day ≤ℤ last_day)) new.1 c.in_ok-cut.ensures.in_range,
         )
       ];
-      same = c.cut-cut.ensures.same ∙ c.contracts.invariant.same;
+      same = c.cut_between.ensures.same ∙ c.contracts.invariant.same;
     }
 
 pub returns-clause-each : goal.returns-clause-each

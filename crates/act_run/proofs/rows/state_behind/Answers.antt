@@ -1,11 +1,11 @@
-use Rattle.std.proofs.Common.{arith}
-use Rattle.act_run.proofs.Resumed.{behind_last, behind_none}
+use Rattle.std.proofs.Common.{◌≡◌, ℕ, suc, take, Ok, subst, arith}
+use Rattle.act_profile.specs.Steps.{start_of}
+use Rattle.act_run.specs.Resuming.{state_or_start}
+use Rattle.act_run.proofs.Resumed.{behind_last}
 use Rattle.act_run.proofs.rows.state_behind.Goals as goal
 
 pub returns-in-Some : goal.returns-in-Some
 returns-in-Some c =
-    let last = c.in-Some.ensures in
-    behind_last c.args.first c.args.rows.now c.in-Some.last c.row.result (omega (arith, c.count.ensures, last.0, last.1)) c.row.ensures
-
-pub returns-in-None : goal.returns-in-None
-returns-in-None c = behind_none c.args.first c.args.rows.now (λ some. c.in-None.ensures (rw c.count.ensures some))
+    let start = start_of c.args.terms.now c.args.plan.now in
+    let count : suc c.in-Some.last ≡ c.args.count = omega (arith, c.in-Some.ensures.0, c.in-Some.ensures.1) in
+    subst (λ (n : ℕ). Ok c.row.result.state ≡ state_or_start start (take n c.args.rows.now)) count (behind_last start c.args.rows.now c.in-Some.last c.row.result c.row.ensures)

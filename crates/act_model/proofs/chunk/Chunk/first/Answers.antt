@@ -1,8 +1,7 @@
-use Rattle.std.proofs.Common.{◌≡◌, ◌++◌, List, map, take, sym, ap, ap₂, subst, ◌∙◌}
+use Rattle.std.proofs.Common.{◌≡◌, map, take, sym, ap, subst, ◌∙◌}
 use Rattle.std.proofs.lemmas.List.{take-map}
 use Rattle.std.specs.List.{All}
 use Rattle.act_model.specs.Chunk.{HasParts, full_row}
-use Rattle.act_model.specs.declared.shared.Slim.{Slim}
 use Rattle.act_model.proofs.Slims.{same_rows}
 use Rattle.act_model.proofs.chunk.Chunk.first.Goals as goal
 
@@ -10,8 +9,8 @@ pub returns : goal.returns
 returns c =
     let chunk = c.self.inside in
     let shared = c.in_ok-shared.shared in
-    let slims = c.extend_from_slice.new.self.items in
-    let rows : slims ≡ take c.args.count chunk.rows.items = c.in_ok-extend_from_slice.ensures.items ∙ ap₂ (λ (xs ys : List Slim). xs ++ ys) c.in_ok-rows.ensures.items (ap (take c.args.count) c.deref.ensures.value) in
+    let slims = c.in_ok-rows.rows.items in
+    let rows : slims ≡ take c.args.count chunk.rows.items = c.in_ok-rows.ensures ∙ ap (take c.args.count) c.deref.ensures.value in
     let there : All (HasParts shared) slims = subst (All (HasParts shared)) c.deref-2.ensures.value c.in_ok-shared.ensures.there in
     sym (same_rows shared chunk.shared c.in_ok-shared.ensures.stays slims there)
     ∙ ap (map (full_row chunk.shared)) rows

@@ -1,6 +1,6 @@
 use Rattle.std.proofs.Common.{◌≡◌, ◌*◌, ap₂, arith, rules}
 use Rattle.act_num.proofs.Estimates.{by_fraction}
-use Rattle.act_num.proofs.rounding.nearest_factor.Goals as goal
+use Rattle.act_num.proofs.rounding.estimated_by_factor.Goals as goal
 
 pub returns-then-estimate-lt-NEAR_WHOLE : goal.returns-then-estimate-lt-NEAR_WHOLE
 returns-then-estimate-lt-NEAR_WHOLE c =

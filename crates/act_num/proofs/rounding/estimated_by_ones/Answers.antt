@@ -2,8 +2,8 @@ use Rattle.std.proofs.Common.{◌≡◌, ◌+◌, ◌*◌, ◌%◌, ◌<◌, ◌
 use Rattle.std.proofs.lemmas.Int.{ints}
 use Rattle.std.proofs.lemmas.Nat.{mod_below}
 use Rattle.act_num.proofs.Estimates.{rounded_down, rounded_up}
-use Rattle.act_num.proofs.rounding.nearest_estimated.Goals.{then-short-lt0, else-short-lt0}
-use Rattle.act_num.proofs.rounding.nearest_estimated.Goals as goal
+use Rattle.act_num.proofs.rounding.estimated_by_ones.Goals.{then-short-lt0, else-short-lt0}
+use Rattle.act_num.proofs.rounding.estimated_by_ones.Goals as goal
 
 pub returns-then-short-gt3 : goal.returns-then-short-gt3
 returns-then-short-gt3 c =

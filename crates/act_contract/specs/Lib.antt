@@ -1,0 +1,2 @@
+-- What kinds there are.
+pub mod Kinds
