@@ -1,7 +1,8 @@
 //! The calls of LAM, NAM and ANN.
 ghost use Rattle.std.specs.Prelude.{◌≡◌, ◌≢◌, [], true, Ok, Err};
 ghost use Rattle.act_amort.specs.Kinds.{amortizes};
-ghost use Rattle.act_kind.specs.Takes.{Takes, with_state};
+ghost use Rattle.act_kind.specs.Takes.{Takes};
+ghost use Rattle.act_loan.specs.Tables.{IsTableOf};
 ghost use Rattle.act_model.specs.Kind.{type_of};
 ghost use Rattle.act_profile.specs.Built.{CyclesLeadOn, IsBuilt};
 ghost use Rattle.act_profile.specs.LoanPlan.{loan_plan};
@@ -10,7 +11,7 @@ ghost use Rattle.act_profile.specs.Steps.{start_of, step_of};
 
 use crate::planning::dates_by_type;
 use crate::terms::{loan_terms, planned_terms};
-use act_loan::{LoanTerms, advance_loan, start_loan, step_loan};
+use act_loan::{LoanTable, LoanTerms, start_loan, step_loan};
 use act_model::{Event, Observed, Plan, PlanFault, State, Stop, Terms};
 use act_num::{Fixed, Steps};
 use std::alloc::Global;
@@ -72,7 +73,7 @@ pub fn step<O: Observed, L: Ledger>(
 {
     step_loan(
         terms,
-        planned_terms(terms, plan),
+        &loan_table(terms, plan),
         plan,
         state,
         event,
@@ -81,28 +82,13 @@ pub fn step<O: Observed, L: Ledger>(
     )
 }
 
-/// Takes the step of an event of a LAM, a NAM or an ANN, as [`step`] does, in place: the state becomes the one after
-/// the event, and what the event pays is answered. Where the run stops the state is of no use.
-pub fn advance<O: Observed, L: Ledger>(
-    terms: &Terms,
-    plan: &Plan,
-    state: &mut State,
-    event: &Event,
-    seen: &O,
-    steps: &mut Steps<L>,
-) -> Result<Fixed, Stop>
+/// The table of the steps of a LAM, a NAM or an ANN, which is made once for all its events.
+#[tactic(auto, using(act_loan::proofs::Contracts::periods_of))]
+pub fn loan_table<'a>(terms: &'a Terms, plan: &'a Plan) -> LoanTable<'a>
     requires kind { amortizes (type_of terms.now.kind) ≡ true }
     requires built { IsBuilt terms.now.kind }
     requires plan { plan_of terms.now ≡ Ok plan.now }
-    ensures { Takes (with_state state.new result) (step_of terms.now plan.now (O.entries seen.now) [] state.old event.now) steps.old steps.new }
+    ensures { IsTableOf result terms.now plan.now }
 {
-    advance_loan(
-        terms,
-        planned_terms(terms, plan),
-        plan,
-        state,
-        event,
-        seen,
-        steps,
-    )
+    LoanTable::new(planned_terms(terms, plan), plan)
 }

@@ -10,5 +10,5 @@ mod planning;
 mod redemptions;
 mod terms;
 
-pub use amort::{advance, schedule, start, step};
+pub use amort::{loan_table, schedule, start, step};
 pub use maturity::maturity_of;

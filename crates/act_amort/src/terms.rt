@@ -11,7 +11,7 @@ use crate::maturity::maturity_of;
 use act_loan::LoanTerms;
 use act_model::{Ann, Common, ContractType, Kind, Lam, Nam, Plan, PlanFault, Terms};
 
-// Inlined, all five: a loan's terms are large, and each event asks for them.
+// Inlined, all of them: a loan's terms are large, and each event asks for them.
 
 /// The terms of a LAM, a NAM or an ANN as a loan's, or why a LAM has no maturity.
 #[inline(always)]

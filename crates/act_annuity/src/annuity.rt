@@ -129,7 +129,7 @@ fn raised(number: i128, product: i128) -> Option<i128>
     if product < 0 {
         return None;
     }
-    // It never is: sums begin at the factor 1.
+    // It never is below 0: `Raise` begins at the factor 1, and only adds.
     if number < 0 {
         return in_range(number + product);
     }

@@ -390,6 +390,21 @@ impl Board {
         ensures memory { IfErr result (λ _. IsLegal self.old (mark.Collect caller)) }
         ensures unchanged { IfErr result (λ _. self.new ≡ self.old) }
     {
+        let collected = self.collect_oldest(caller)?;
+        if let Collected::Ready(_) = &collected {
+            self.drop_runs();
+        }
+        Ok(collected)
+    }
+
+    /// The same, and no runs are dropped.
+    fn collect_oldest(&mut self, caller: u32) -> Result<Collected, NoMemory>
+        requires present { IsPresent self.old caller }
+        requires asked { 0 < length (open_asks self.old caller) }
+        ensures collected { IfOk result (λ collected. Collects self.old caller collected self.new) }
+        ensures memory { IfErr result (λ _. IsLegal self.old (mark.Collect caller)) }
+        ensures unchanged { IfErr result (λ _. self.new ≡ self.old) }
+    {
         if self.given_up {
             return Ok(Collected::GivenUp);
         }

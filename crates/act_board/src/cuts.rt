@@ -34,10 +34,12 @@ pub(crate) fn cuts_between(
     // A portfolio tells how its contracts are linked only where it is asked for their terms and order.
     let _ = portfolio.order();
     let contracts = portfolio.terms().len();
-    let seen = book.snapshot(other)?;
+    let to = one.max(other);
+    let seen = book.snapshot(to)?;
     let mut cuts = Vec::with_capacity(alloc, contracts)?;
     'contracts: for contract in 0..contracts {
-        let cut = cut_between(portfolio.reads(contract as u32), book, &seen, one, other)?;
+        let reads = portfolio.reads(contract as u32);
+        let cut = cut_between(reads, book, &seen, one.min(other), to)?;
         cuts.push(cut)?;
     }
     Ok(cuts)

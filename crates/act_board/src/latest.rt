@@ -171,7 +171,7 @@ pub(crate) fn cut_between(
 }
 
 /// The same cut: a day that can be.
-pub(crate) fn in_range(cut: Option<Day>) -> Option<Day>
+fn in_range(cut: Option<Day>) -> Option<Day>
     ensures same { result ≡ cut }
     ensures in_range { IfSome result (λ day. day ≤ℤ last_day) }
 {

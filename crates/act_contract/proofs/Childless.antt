@@ -1,6 +1,6 @@
 -- Contracts that read no children's runs: all but swaps of two contracts, caps and floors, and guarantees.
-use Rattle.std.proofs.Common.{◌≡◌, Bool, true, false, List, [], refl, sym, ap, ◌∙◌}
-use Rattle.act_amort.specs.Kinds.{amortizes}
+use Rattle.std.proofs.Common.{◌≡◌, Bool, true, false, List, [], Some, refl, sym, ap, ◌∙◌}
+use Rattle.std.proofs.lemmas.Option.{none-some}
 use Rattle.act_equity.specs.Kinds.{is_stock_or_outright}
 use Rattle.act_model.specs.Kind.{type_of}
 use Rattle.act_model.specs.Run.{EventPlan, Stream}
@@ -16,6 +16,7 @@ use Rattle.act_model.specs.declared.terms.Kind.{Kind}
 use Rattle.act_model.specs.declared.terms.Kind.TheVariants as kind
 use Rattle.act_model.specs.declared.terms.Terms.{Terms}
 use Rattle.act_option.specs.Kinds.{is_exercised}
+use Rattle.act_profile.specs.LoanTerms.{LoanTerms, loan_terms_of}
 use Rattle.act_profile.specs.Order.{is_own}
 use Rattle.act_profile.specs.Step.{StepLine, step_by, unpaid}
 use Rattle.act_profile.specs.Steps.{accrual_by, factor_for, guarantee_step_by, is_unpaid, line_by, step_by_line, step_of}
@@ -30,15 +31,13 @@ is_childless other = true
 
 -- ---- which do
 
-pub plain_loan : (t : ContractType) → t ≡ type.PAM → is_childless t ≡ true
-plain_loan t is = ap is_childless is
-
-pub amortizing : (t : ContractType) → amortizes t ≡ true → is_childless t ≡ true
-amortizing type.SWAPS is = absurd (cc)
-amortizing type.CAPFL is = absurd (cc)
-amortizing type.CEG is = absurd (cc)
-amortizing type.CEC is = absurd (cc)
-amortizing other is = refl
+-- a loan does not
+pub loan : (common : Common) (contract : Kind) (l : LoanTerms) → loan_terms_of common contract ≡ Some l → is_childless (type_of contract) ≡ true
+loan common (kind.SWAPS swaps) l is = absurd (none-some l is)
+loan common (kind.CAPFL capfl) l is = absurd (none-some l is)
+loan common (kind.CEG ceg) l is = absurd (none-some l is)
+loan common (kind.CEC cec) l is = absurd (none-some l is)
+loan common other l is = refl
 
 pub equity : (t : ContractType) → is_stock_or_outright t ≡ true → is_childless t ≡ true
 equity type.SWAPS is = absurd (cc)

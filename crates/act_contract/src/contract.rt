@@ -1,14 +1,15 @@
 //! The calls of each kind.
-ghost use Rattle.std.specs.Prelude.{◌≡◌, ◌≢◌, true, map, Ok, Err};
+ghost use Rattle.std.specs.Prelude.{◌≡◌, ◌≢◌, true, false, map, None, Ok, Err, IfSome};
 ghost use Rattle.std.specs.Arc.{arc_value};
 ghost use Rattle.act_amort.specs.Kinds.{amortizes};
-ghost use Rattle.act_contract.specs.Kinds.{is_stepped_by_value};
 ghost use Rattle.act_credit.specs.Kinds.{is_guarantee};
 ghost use Rattle.act_equity.specs.Kinds.{is_stock_or_outright};
 ghost use Rattle.act_kind.specs.Takes.{Takes, with_state};
+ghost use Rattle.act_loan.specs.Tables.{IsTableOf};
 ghost use Rattle.act_model.specs.Kind.{type_of};
 ghost use Rattle.act_option.specs.Kinds.{is_exercised};
 ghost use Rattle.act_profile.specs.Built.{IsBuilt};
+ghost use Rattle.act_profile.specs.Contract.{is_loan_type};
 ghost use Rattle.act_profile.specs.Maturity.{maturity_of};
 ghost use Rattle.act_profile.specs.Plan.{plan_of};
 ghost use Rattle.act_profile.specs.Steps.{currency_of, own_currency, start_of, step_of};
@@ -16,6 +17,7 @@ ghost use Rattle.act_swap.specs.Kinds.{is_swap_or_cap};
 
 use act_date::Day;
 use act_kind::with_state;
+use act_loan::{LoanTable, advance_loan};
 use act_model::{
     Common, ContractType, Event, Kind, Observed, Plan, PlanFault, Run, State, Stop, Terms,
 };
@@ -93,6 +95,20 @@ pub fn start(terms: &Terms, plan: &Plan) -> Result<State, Stop>
     }
 }
 
+/// The table of the steps of a contract that is a loan, which is made once for all its events.
+pub fn loan_table<'a>(terms: &'a Terms, plan: &'a Plan) -> Option<LoanTable<'a>>
+    requires built { IsBuilt terms.now.kind }
+    requires plan { plan_of terms.now ≡ Ok plan.now }
+    ensures table { IfSome result (λ table. IsTableOf table terms.now plan.now) }
+    ensures others { result ≡ None → is_loan_type (type_of terms.now.kind) ≡ false }
+{
+    match &terms.kind {
+        Kind::PAM(_) => Some(act_loan::loan_table(terms, plan)),
+        Kind::LAM(_) | Kind::NAM(_) | Kind::ANN(_) => Some(act_amort::loan_table(terms, plan)),
+        _ => None,
+    }
+}
+
 /// What an event pays and the state after it, over the runs of the contract's children, or why the run stops there: first
 /// an observation that is missing, and then an amount that is undefined. Where it is Ok it ticks once, and else not at all.
 /// It takes no memory.
@@ -110,15 +126,40 @@ pub fn step<O: Observed, L: Ledger>(
     ensures { Takes result
         (step_of terms.now plan.now (O.entries seen.now) (map arc_value children.now) state.now event.now) steps.old steps.new }
 {
+    let table = loan_table(terms, plan);
     let mut next = *state;
-    let taken = advance(terms, plan, &mut next, event, children, seen, steps);
+    let taken = advance(terms, &table, plan, &mut next, event, children, seen, steps);
     with_state(next, taken)
 }
 
 /// Takes the step of an event, as [`step`] does, in place: the state becomes the one after the event, and what the event
-/// pays is answered. Where the run stops the state is of no use.
+/// pays is answered. Where the run stops the state is of no use. The table of a loan is handed in.
 #[inline(always)]
 pub fn advance<O: Observed, L: Ledger>(
+    terms: &Terms,
+    table: &Option<LoanTable<'_>>,
+    plan: &Plan,
+    state: &mut State,
+    event: &Event,
+    children: &[Arc<Run, Global>],
+    seen: &O,
+    steps: &mut Steps<L>,
+) -> Result<Fixed, Stop>
+    requires built { IsBuilt terms.now.kind }
+    requires plan { plan_of terms.now ≡ Ok plan.now }
+    requires table { IfSome table.now (λ table. IsTableOf table terms.now plan.now) }
+    requires others { table.now ≡ None → is_loan_type (type_of terms.now.kind) ≡ false }
+    ensures { Takes (with_state state.new result)
+        (step_of terms.now plan.now (O.entries seen.now) (map arc_value children.now) state.old event.now) steps.old steps.new }
+{
+    match table {
+        Some(table) => advance_loan(terms, table, plan, state, event, seen, steps),
+        None => advance_other(terms, plan, state, event, children, seen, steps),
+    }
+}
+
+/// The same of a contract that is no loan.
+fn advance_other<O: Observed, L: Ledger>(
     terms: &Terms,
     plan: &Plan,
     state: &mut State,
@@ -129,65 +170,38 @@ pub fn advance<O: Observed, L: Ledger>(
 ) -> Result<Fixed, Stop>
     requires built { IsBuilt terms.now.kind }
     requires plan { plan_of terms.now ≡ Ok plan.now }
+    requires other { is_loan_type (type_of terms.now.kind) ≡ false }
     ensures { Takes (with_state state.new result)
         (step_of terms.now plan.now (O.entries seen.now) (map arc_value children.now) state.old event.now) steps.old steps.new }
 {
     match family_of(&terms.kind) {
-        Family::Loan => act_loan::advance(terms, plan, state, event, seen, steps),
-        Family::Amortizing => act_amort::advance(terms, plan, state, event, seen, steps),
         Family::Swap => act_swap::advance(terms, plan, state, event, children, seen, steps),
-        Family::Equity | Family::Option | Family::Credit => {
-            advance_by_step(terms, plan, state, event, children, seen, steps)
-        }
+        Family::Equity => put_in_place(
+            act_equity::step(terms, plan, state, event, seen, steps),
+            state,
+        ),
+        Family::Option => put_in_place(
+            act_option::step(terms, plan, state, event, seen, steps),
+            state,
+        ),
+        Family::Credit => put_in_place(
+            act_credit::step(terms, plan, state, event, children, seen, steps),
+            state,
+        ),
+        Family::Loan | Family::Amortizing => unreachable!(),
     }
 }
 
-/// The same of a kind whose crate answers the next state by value.
-fn advance_by_step<O: Observed, L: Ledger>(
-    terms: &Terms,
-    plan: &Plan,
-    state: &mut State,
-    event: &Event,
-    children: &[Arc<Run, Global>],
-    seen: &O,
-    steps: &mut Steps<L>,
-) -> Result<Fixed, Stop>
-    requires built { IsBuilt terms.now.kind }
-    requires plan { plan_of terms.now ≡ Ok plan.now }
-    requires by_value { is_stepped_by_value (type_of terms.now.kind) ≡ true }
-    ensures { Takes (with_state state.new result)
-        (step_of terms.now plan.now (O.entries seen.now) (map arc_value children.now) state.old event.now) steps.old steps.new }
+/// Makes a state the one that a step answers, and answers what the event pays.
+fn put_in_place(taken: Result<(Fixed, State), Stop>, state: &mut State) -> Result<Fixed, Stop>
+    ensures { with_state state.new result ≡ taken }
 {
-    match step_by_value(terms, plan, state, event, children, seen, steps) {
+    match taken {
         Ok((payoff, next)) => {
             *state = next;
             Ok(payoff)
         }
         Err(stop) => Err(stop),
-    }
-}
-
-/// What such an event pays, and the state after it.
-fn step_by_value<O: Observed, L: Ledger>(
-    terms: &Terms,
-    plan: &Plan,
-    state: &State,
-    event: &Event,
-    children: &[Arc<Run, Global>],
-    seen: &O,
-    steps: &mut Steps<L>,
-) -> Result<(Fixed, State), Stop>
-    requires built { IsBuilt terms.now.kind }
-    requires plan { plan_of terms.now ≡ Ok plan.now }
-    requires by_value { is_stepped_by_value (type_of terms.now.kind) ≡ true }
-    ensures { Takes result
-        (step_of terms.now plan.now (O.entries seen.now) (map arc_value children.now) state.now event.now) steps.old steps.new }
-{
-    match family_of(&terms.kind) {
-        Family::Equity => act_equity::step(terms, plan, state, event, seen, steps),
-        Family::Option => act_option::step(terms, plan, state, event, seen, steps),
-        Family::Credit => act_credit::step(terms, plan, state, event, children, seen, steps),
-        Family::Loan | Family::Amortizing | Family::Swap => unreachable!(),
     }
 }
 

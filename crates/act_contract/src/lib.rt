@@ -4,4 +4,4 @@
 
 mod contract;
 
-pub use contract::{advance, currency_of, maturity, schedule, start, step};
+pub use contract::{advance, currency_of, loan_table, maturity, schedule, start, step};

@@ -57,9 +57,9 @@ count-asks done line asked is = (count-not appends done line (ap is_append is), 
 
 -- ---- the way
 
-module _ (start : History) (i : ℕ) where
+module _ {A : Type 0} {kept_of : Reply → A} (start : History) (i : ℕ) where
   -- before the first line
-  pub amid-start : IsPresent start i → IsAmid start i [] [] start
+  pub amid-start : IsPresent start i → IsAmid kept_of start i [] [] start
   amid-start here = record {
     portfolio = refl;
     quotas = refl;
@@ -74,13 +74,14 @@ module _ (start : History) (i : ℕ) where
     told = refl;
   }
 
-  module _ (done : List Line) (answers : List Reply) (now : History) (is : IsAmid start i done answers now) where
+  module _ (done : List Line) (answers : List A) (now : History) (is : IsAmid kept_of start i done answers now) where
     -- answers over a book that goes on
     told-on : (more : List Obs) (later : List Obs) → later ≡ entries_of now ++ more
-        → answers ≡ map (answer_to start.portfolio.contracts start.portfolio.names later) (take (length answers) is.made)
+        → answers ≡ map kept_of (map (answer_to start.portfolio.contracts start.portfolio.names later) (take (length answers) is.made))
     told-on more later goes =
         is.told
-        ∙ (sym (all-told start.portfolio.contracts start.portfolio.names (entries_of now) more (take (length answers) is.made) (All-take (λ (a : Asking). a.version ≤ version_of now) (length answers) is.made is.versions))
+        ∙ ap (map kept_of)
+        (sym (all-told start.portfolio.contracts start.portfolio.names (entries_of now) more (take (length answers) is.made) (All-take (λ (a : Asking). a.version ≤ version_of now) (length answers) is.made is.versions))
         ∙ ap (λ (book : List Obs). map (answer_to start.portfolio.contracts start.portfolio.names book) (take (length answers) is.made)) (sym goes))
 
     versions-on : (more : List Obs) (later : History) → entries_of later ≡ entries_of now ++ more → All (λ (ask : Asking). ask.version ≤ version_of later) is.made
@@ -89,7 +90,7 @@ module _ (start : History) (i : ℕ) where
         All-weaker (λ (ask : Asking). ask.version ≤ version_of now) (λ (ask : Asking). ask.version ≤ version_of later) (λ ask within. omega (arith, within, longer)) is.made is.versions
 
     -- others go on
-    pub amid-stays : (found : History) → GoesOnBeside i now found → IsAmid start i done answers found
+    pub amid-stays : (found : History) → GoesOnBeside i now found → IsAmid kept_of start i done answers found
     amid-stays found goes =
         let book = book-goes i now found goes in
         record {
@@ -107,7 +108,7 @@ module _ (start : History) (i : ℕ) where
         }
 
     -- a line that appends
-    pub amid-append : (line : Line) (entry : Obs) → line.step ≡ step.Append entry → IsAmid start i (done ++ line ∷ []) answers (and_then now (mark.Append i entry))
+    pub amid-append : (line : Line) (entry : Obs) → line.step ≡ step.Append entry → IsAmid kept_of start i (done ++ line ∷ []) answers (and_then now (mark.Append i entry))
     amid-append line entry is-append =
         let m : Mark = mark.Append i entry in
         let after : History = and_then now m in
@@ -129,7 +130,7 @@ module _ (start : History) (i : ℕ) where
         }
 
     -- a line that asks
-    pub amid-ask : (line : Line) (asked : Asked) → line.step ≡ step.Ask asked → IsAmid start i (done ++ line ∷ []) answers (and_then now (mark.Ask i asked))
+    pub amid-ask : (line : Line) (asked : Asked) → line.step ≡ step.Ask asked → IsAmid kept_of start i (done ++ line ∷ []) answers (and_then now (mark.Ask i asked))
     amid-ask line asked is-ask =
         let m : Mark = mark.Ask i asked in
         let after : History = and_then now m in
@@ -153,7 +154,7 @@ module _ (start : History) (i : ℕ) where
               (subst (λ (n : ℕ). version_of now ≤ n) (sym (ap length same)) (omega arith));
           collected = count-not (is_collect_by i) now.marks m refl ∙ is.collected;
           fewer = let had = is.fewer in omega (arith, longer, had);
-          told = told-on [] (entries_of after) none ∙ ap (λ (made : List Asking). map (answer_to start.portfolio.contracts start.portfolio.names (entries_of after)) made) (sym (take-append-le (length answers) is.made (ask ∷ []) is.fewer));
+          told = told-on [] (entries_of after) none ∙ ap (λ (made : List Asking). map kept_of (map (answer_to start.portfolio.contracts start.portfolio.names (entries_of after)) made)) (sym (take-append-le (length answers) is.made (ask ∷ []) is.fewer));
         }
 
     -- the oldest open ask is the next one that has no answer
@@ -179,16 +180,16 @@ module _ (start : History) (i : ℕ) where
 
     -- an answer is collected
     pub amid-collect : collected_by start i ≡ length (asks_by start i) → (ask : Asking) → IsOldest now i ask
-        → IsAmid start i done (answers ++ answer_to start.portfolio.contracts start.portfolio.names (entries_of now) ask ∷ []) (and_then now (mark.Collect i))
+        → IsAmid kept_of start i done (answers ++ kept_of (answer_to start.portfolio.contracts start.portfolio.names (entries_of now) ask) ∷ []) (and_then now (mark.Collect i))
     amid-collect all ask oldest =
         let m : Mark = mark.Collect i in
         let after : History = and_then now m in
         let reply : Reply = answer_to start.portfolio.contracts start.portfolio.names (entries_of now) ask in
         let next = oldest-is all ask oldest in
         let same : entries_of after ≡ entries_of now = entries-same now m refl in
-        let longer : length (answers ++ reply ∷ []) ≡ length answers + 1 = length-append answers (reply ∷ []) in
-        let more : length (answers ++ reply ∷ []) ≡ suc (length answers) = omega (arith, longer) in
-        let first : take (length (answers ++ reply ∷ [])) is.made ≡ take (length answers) is.made ++ ask ∷ [] =
+        let longer : length (answers ++ kept_of reply ∷ []) ≡ length answers + 1 = length-append answers (kept_of reply ∷ []) in
+        let more : length (answers ++ kept_of reply ∷ []) ≡ suc (length answers) = omega (arith, longer) in
+        let first : take (length (answers ++ kept_of reply ∷ [])) is.made ≡ take (length answers) is.made ++ ask ∷ [] =
         ap (λ (n : ℕ). take n is.made) more
         ∙ (take-suc is.made (length answers) ask next.0 ∙ ap (λ (a : Asking). take (length answers) is.made ++ a ∷ []) next.1) in
         record {
@@ -203,8 +204,10 @@ module _ (start : History) (i : ℕ) where
           collected = let one = count-yes (is_collect_by i) now.marks m (eq-eqb i i refl) in let had = is.collected in omega (arith, one, had, longer);
           fewer = let within = next.0 in omega (arith, within, longer);
           told =
-              ap (λ (replies : List Reply). replies ++ reply ∷ []) is.told
-              ∙ (sym (map-append (answer_to start.portfolio.contracts start.portfolio.names (entries_of now)) (take (length answers) is.made) (ask ∷ []))
+              ap (λ (replies : List A). replies ++ kept_of reply ∷ []) is.told
+              ∙ (sym (map-append kept_of (map (answer_to start.portfolio.contracts start.portfolio.names (entries_of now)) (take (length answers) is.made)) (reply ∷ []))
+              ∙ ap (map kept_of)
+              (sym (map-append (answer_to start.portfolio.contracts start.portfolio.names (entries_of now)) (take (length answers) is.made) (ask ∷ []))
               ∙ (ap (λ (made : List Asking). map (answer_to start.portfolio.contracts start.portfolio.names (entries_of now)) made) (sym first)
-              ∙ ap (λ (book : List Obs). map (answer_to start.portfolio.contracts start.portfolio.names book) (take (length (answers ++ reply ∷ [])) is.made)) (sym same)));
+              ∙ ap (λ (book : List Obs). map (answer_to start.portfolio.contracts start.portfolio.names book) (take (length (answers ++ kept_of reply ∷ [])) is.made)) (sym same))));
         }

@@ -87,7 +87,7 @@ own-after k now m Call old new own number seen is =
 
 -- ---- on the way
 
-pub making-start : (pass : Standing Entry) (i : ℕ) (start : History) → pass.number ≡ i → pass.seen ≡ list_of start → IsPresent start i → IsMaking pass i [] [] pass
+pub making-start : {A : Type 0} {kept_of : Reply → A} (pass : Standing Entry) (i : ℕ) (start : History) → pass.number ≡ i → pass.seen ≡ list_of start → IsPresent start i → IsMaking kept_of pass i [] [] pass
 making-start pass i start number seen here = record {
   turn = refl;
   number = number;
@@ -105,8 +105,8 @@ making-start pass i start number seen here = record {
   stays = refl;
 }
 
-module _ (first : Standing Entry) (i : ℕ) (done : List Line) (answers : List Reply) (old new : Standing Entry) (is : IsMaking first i done answers old) where
-  pub making-watched : HasWatched old new → IsMaking first i done answers new
+module _ {A : Type 0} {kept_of : Reply → A} (first : Standing Entry) (i : ℕ) (done : List Line) (answers : List A) (old new : Standing Entry) (is : IsMaking kept_of first i done answers old) where
+  pub making-watched : HasWatched old new → IsMaking kept_of first i done answers new
   making-watched watched = record {
     turn = watched.turn ∙ is.turn;
     number = watched.number ∙ is.number;
@@ -125,10 +125,10 @@ module _ (first : Standing Entry) (i : ℕ) (done : List Line) (answers : List R
   }
 
   -- a mark more
-  making-mark : (m : Mark) (Call : History → History → Type 0) (done' : List Line) (answers' : List Reply) → (own : OwnStep i is.now m Call old new) → caller_of m ≡ Some i
-      → IsAmid is.start i done' answers' own.after
+  making-mark : (m : Mark) (Call : History → History → Type 0) (done' : List Line) (answers' : List A) → (own : OwnStep i is.now m Call old new) → caller_of m ≡ Some i
+      → IsAmid kept_of is.start i done' answers' own.after
       → filter_map item_of (is.marks ++ m ∷ []) ≡ map (item_by i) done' → count_by (is_collect_by i) (is.marks ++ m ∷ []) ≡ length answers' → is_leave_by i m ≡ false
-      → IsMaking first i done' answers' new
+      → IsMaking kept_of first i done' answers' new
   making-mark m Call done' answers' own mine amid steps collects stays = record {
     turn = own.turn ∙ is.turn;
     number = own.number ∙ is.number;
@@ -159,67 +159,67 @@ module _ (first : Standing Entry) (i : ℕ) (done : List Line) (answers : List R
       ∙ (ap (λ (items : List Item). map (item_by i) done ++ items) one ∙ sym (map-append (item_by i) done (line ∷ []))))
 
   -- the caller's history, which others brought on
-  amid-found : (found : History) → GoesOnBeside i is.now found → IsAmid is.start i done answers found
+  amid-found : (found : History) → GoesOnBeside i is.now found → IsAmid kept_of is.start i done answers found
   amid-found found goes = amid-stays is.start i done answers is.now is.amid found goes
 
-  pub making-append : (line : Line) (entry : Obs) (version : ℕ) → line.step ≡ step.Append entry → IsStep old (Appends i entry (Ok version)) new → IsMaking first i (done ++ line ∷ []) answers new
+  pub making-append : (line : Line) (entry : Obs) (version : ℕ) → line.step ≡ step.Append entry → IsStep old (Appends i entry (Ok version)) new → IsMaking kept_of first i (done ++ line ∷ []) answers new
   making-append line entry version is-append next =
       let m : Mark = mark.Append i entry in
       let own = own-step i is.now m (Appends i entry (Ok version)) old new is.number is.seen next (λ found after call. call.appended) in
       let item : item_of m ≡ Some (item_by i line) = ap (λ s. Some (record { caller = i; step = s })) (sym is-append) in
       making-mark m (Appends i entry (Ok version)) (done ++ line ∷ []) answers own refl
-      (subst (IsAmid is.start i (done ++ line ∷ []) answers) (sym own.after_is) (amid-append is.start i done answers own.found (amid-found own.found own.goes) line entry is-append))
+      (subst (IsAmid kept_of is.start i (done ++ line ∷ []) answers) (sym own.after_is) (amid-append is.start i done answers own.found (amid-found own.found own.goes) line entry is-append))
       (line-steps m line item) (count-not (is_collect_by i) is.marks m refl ∙ is.collects) refl
 
-  pub making-ask : (line : Line) (asked : Asked) (number : ℕ) → line.step ≡ step.Ask asked → IsStep old (Asks i asked (Ok number)) new → IsMaking first i (done ++ line ∷ []) answers new
+  pub making-ask : (line : Line) (asked : Asked) (number : ℕ) → line.step ≡ step.Ask asked → IsStep old (Asks i asked (Ok number)) new → IsMaking kept_of first i (done ++ line ∷ []) answers new
   making-ask line asked number is-ask next =
       let m : Mark = mark.Ask i asked in
       let own = own-step i is.now m (Asks i asked (Ok number)) old new is.number is.seen next (λ found after call. call.taken) in
       let item : item_of m ≡ Some (item_by i line) = ap (λ s. Some (record { caller = i; step = s })) (sym is-ask) in
       making-mark m (Asks i asked (Ok number)) (done ++ line ∷ []) answers own refl
-      (subst (IsAmid is.start i (done ++ line ∷ []) answers) (sym own.after_is) (amid-ask is.start i done answers own.found (amid-found own.found own.goes) line asked is-ask))
+      (subst (IsAmid kept_of is.start i (done ++ line ∷ []) answers) (sym own.after_is) (amid-ask is.start i done answers own.found (amid-found own.found own.goes) line asked is-ask))
       (line-steps m line item) (count-not (is_collect_by i) is.marks m refl ∙ is.collects) refl
 
   -- an answer more
-  collect-step : collected_by is.start i ≡ length (asks_by is.start i) → (reply : Reply) → IsStep old (CollectsOrNot i (Ok (collected.Ready reply))) new → IsMaking first i done (answers ++ reply ∷ []) new
+  collect-step : collected_by is.start i ≡ length (asks_by is.start i) → (reply : Reply) → IsStep old (CollectsOrNot i (Ok (collected.Ready reply))) new → IsMaking kept_of first i done (answers ++ kept_of reply ∷ []) new
   collect-step all reply next =
       let m : Mark = mark.Collect i in
       let own = own-step i is.now m (CollectsOrNot i (Ok (collected.Ready reply))) old new is.number is.seen next (λ found after call. call.collected.5) in
-      let amid : IsAmid is.start i done answers own.found = amid-found own.found own.goes in
+      let amid : IsAmid kept_of is.start i done answers own.found = amid-found own.found own.goes in
       let same : reply ≡ answer_to is.start.portfolio.contracts is.start.portfolio.names (entries_of own.found) own.call.collected.1 =
       own.call.collected.4 ∙ ap (λ (of : Accepted). answer_to of.contracts of.names (entries_of own.found) own.call.collected.1) amid.portfolio in
       let steps : filter_map item_of (is.marks ++ m ∷ []) ≡ map (item_by i) done = filter_map-append item_of is.marks (m ∷ []) ∙ (append-nil (filter_map item_of is.marks) ∙ is.steps) in
       let one = count-yes (is_collect_by i) is.marks m (eq-eqb i i refl) in
       let had = is.collects in
-      let longer = length-append answers (reply ∷ []) in
-      making-mark m (CollectsOrNot i (Ok (collected.Ready reply))) done (answers ++ reply ∷ []) own refl
-      (subst (IsAmid is.start i done (answers ++ reply ∷ [])) (sym own.after_is)
-      (subst (λ (r : Reply). IsAmid is.start i done (answers ++ r ∷ []) (and_then own.found m)) (sym same) (amid-collect is.start i done answers own.found amid all own.call.collected.1 own.call.collected.2)))
+      let longer = length-append answers (kept_of reply ∷ []) in
+      making-mark m (CollectsOrNot i (Ok (collected.Ready reply))) done (answers ++ kept_of reply ∷ []) own refl
+      (subst (IsAmid kept_of is.start i done (answers ++ kept_of reply ∷ [])) (sym own.after_is)
+      (subst (λ (r : Reply). IsAmid kept_of is.start i done (answers ++ kept_of r ∷ []) (and_then own.found m)) (sym same) (amid-collect is.start i done answers own.found amid all own.call.collected.1 own.call.collected.2)))
       steps (omega (arith, one, had, longer)) refl
 
 -- an answer more, where the caller has watched before
-pub making-collect : (first : Standing Entry) (i : ℕ) (done : List Line) (answers now-answers : List Reply) (old new : Standing Entry) (is : IsMaking first i done answers old)
-    → collected_by is.start i ≡ length (asks_by is.start i) → HasCollected old i answers new now-answers → IsMaking first i done now-answers new
+pub making-collect : {A : Type 0} {kept_of : Reply → A} (first : Standing Entry) (i : ℕ) (done : List Line) (answers now-answers : List A) (old new : Standing Entry) (is : IsMaking kept_of first i done answers old)
+    → collected_by is.start i ≡ length (asks_by is.start i) → HasCollected kept_of old i answers new now-answers → IsMaking kept_of first i done now-answers new
 unfolding making-watched
-making-collect first i done answers now-answers old new is all got =
-    subst (λ (replies : List Reply). IsMaking first i done replies new) (sym got.2)
+making-collect {A} {kept_of} first i done answers now-answers old new is all got =
+    subst (λ (replies : List A). IsMaking kept_of first i done replies new) (sym got.2)
     (collect-step first i done answers got.1.between new (making-watched first i done answers old got.1.between is got.1.watched) all got.0 got.1.step)
 
-pub making-room : (first : Standing Entry) (i : ℕ) (done : List Line) (answers now-answers : List Reply) (old new : Standing Entry) (is : IsMaking first i done answers old)
-    → collected_by is.start i ≡ length (asks_by is.start i) → MayHaveCollected old i answers new now-answers → IsMaking first i done now-answers new
-making-room first i done answers now-answers old new is all got =
+pub making-room : {A : Type 0} {kept_of : Reply → A} (first : Standing Entry) (i : ℕ) (done : List Line) (answers now-answers : List A) (old new : Standing Entry) (is : IsMaking kept_of first i done answers old)
+    → collected_by is.start i ≡ length (asks_by is.start i) → MayHaveCollected kept_of old i answers new now-answers → IsMaking kept_of first i done now-answers new
+making-room {A} {kept_of} first i done answers now-answers old new is all got =
     ⊎_elim (λ one. making-collect first i done answers now-answers old new is all one)
-    (λ same. subst (λ (pass : Standing Entry). IsMaking first i done now-answers pass) (sym same.0) (subst (λ (replies : List Reply). IsMaking first i done replies old) (sym same.1) is)) got
+    (λ same. subst (λ (pass : Standing Entry). IsMaking kept_of first i done now-answers pass) (sym same.0) (subst (λ (replies : List A). IsMaking kept_of first i done replies old) (sym same.1) is)) got
 
 -- ---- the end
 
 -- all is made, and the caller leaves
-pub made : (first : Standing Entry) (i : ℕ) (lines : List Line) (answers : List Reply) (old new : Standing Entry) → IsMaking first i lines answers old → length answers ≡ count_by asks lines
-    → IsStep old (Leaves i) new → HasMade first i lines answers new
-made first i lines answers old new is all next =
+pub made : {A : Type 0} {kept_of : Reply → A} (first : Standing Entry) (i : ℕ) (lines : List Line) (answers : List A) (old new : Standing Entry) → IsMaking kept_of first i lines answers old → length answers ≡ count_by asks lines
+    → IsStep old (Leaves i) new → HasMade kept_of first i lines answers new
+made {A} {kept_of} first i lines answers old new is all next =
     let m : Mark = mark.Leave i in
     let own = own-step i is.now m (Leaves i) old new is.number is.seen next (λ found after call. call) in
-    let amid : IsAmid is.start i lines answers own.found = amid-stays is.start i lines answers is.now is.amid own.found own.goes in
+    let amid : IsAmid kept_of is.start i lines answers own.found = amid-stays is.start i lines answers is.now is.amid own.found own.goes in
     let same : entries_of own.after ≡ entries_of own.found = ap entries_of own.after_is ∙ entries-same own.found m refl in
     let of : own.after.portfolio ≡ is.start.portfolio = ap (λ (h : History). h.portfolio) own.after_is ∙ amid.portfolio in
     let whole : take (length answers) amid.made ≡ amid.made = let count = amid.count in take_all (length answers) amid.made (omega (arith, all, count)) in
@@ -244,15 +244,16 @@ made first i lines answers old new is all next =
       versions = subst (λ (n : ℕ). All (λ (ask : Asking). ask.version ≤ n) amid.made) (sym (ap length same)) amid.versions;
       told =
           amid.told
-          ∙ (ap (λ (asks : List Asking). map (answer_to is.start.portfolio.contracts is.start.portfolio.names (entries_of own.found)) asks) whole
+          ∙ ap (map kept_of)
+          (ap (λ (asks : List Asking). map (answer_to is.start.portfolio.contracts is.start.portfolio.names (entries_of own.found)) asks) whole
           ∙ (ap (λ (book : List Obs). map (answer_to is.start.portfolio.contracts is.start.portfolio.names book) amid.made) (sym same)
           ∙ ap (λ (p : Accepted). map (answer_to p.contracts p.names (entries_of own.after)) amid.made) (sym of)));
     }
 
 -- memory runs out, and the caller leaves
-pub stopped : (first : Standing Entry) (i : ℕ) (lines : List Line) (done : ℕ) (answers : List Reply) (old mid new : Standing Entry) → IsMaking first i (take done lines) answers old → HasWatched old mid
+pub stopped : {A : Type 0} {kept_of : Reply → A} (first : Standing Entry) (i : ℕ) (lines : List Line) (done : ℕ) (answers : List A) (old mid new : Standing Entry) → IsMaking kept_of first i (take done lines) answers old → HasWatched old mid
     → IsStep mid (Leaves i) new → HasStopped first i lines new
-stopped first i lines done answers old mid new is watched next =
+stopped {A} {kept_of} first i lines done answers old mid new is watched next =
     let m : Mark = mark.Leave i in
     let later = making-watched first i (take done lines) answers old mid is watched in
     let own = own-step i later.now m (Leaves i) mid new later.number later.seen next (λ found after call. call) in

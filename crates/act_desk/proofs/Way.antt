@@ -48,7 +48,7 @@ module _ (lines : List Line) (n : ℕ) (line : Line) (within : n < length lines)
 
 -- ---- a caller on its way
 
-module _ (first : Standing Entry) (i : ℕ) (done : List Line) (answers : List Reply) (pass : Standing Entry) (is : IsMaking first i done answers pass) where
+module _ {A : Type 0} {kept_of : Reply → A} (first : Standing Entry) (i : ℕ) (done : List Line) (answers : List A) (pass : Standing Entry) (is : IsMaking kept_of first i done answers pass) where
   pub making-free : (id : TableId) → IsFree id first → IsFree id pass
   making-free id free = (is.turn ∙ free.0, is.holds ∙ free.1)
 

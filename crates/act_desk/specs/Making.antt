@@ -85,17 +85,17 @@ pub record HasCalled (old : Standing Entry) (Call : History → History → Type
   pub watched : HasWatched old between
   pub step : IsStep between Call new
 
--- it has watched, and then collected an answer of the caller, which stands behind those that it had; or it hasn't
-abbrev pub HasCollected : Standing Entry → ℕ → List Reply → Standing Entry → List Reply → Type 0
-HasCollected old i had new has = (answer : Reply) × HasCalled old (CollectsOrNot i (Ok (Ready answer))) new × (has ≡ had ++ answer ∷ [])
+-- it has watched, and then collected an answer of the caller, of which what is kept stands behind what it had; or it hasn't
+abbrev pub HasCollected : {A : Type 0} → (Reply → A) → Standing Entry → ℕ → List A → Standing Entry → List A → Type 0
+HasCollected kept_of old i had new has = (answer : Reply) × HasCalled old (CollectsOrNot i (Ok (Ready answer))) new × (has ≡ had ++ kept_of answer ∷ [])
 
-abbrev pub MayHaveCollected : Standing Entry → ℕ → List Reply → Standing Entry → List Reply → Type 0
-MayHaveCollected old i had new has = HasCollected old i had new has ⊎ ((new ≡ old) × (has ≡ had))
+abbrev pub MayHaveCollected : {A : Type 0} → (Reply → A) → Standing Entry → ℕ → List A → Standing Entry → List A → Type 0
+MayHaveCollected kept_of old i had new has = HasCollected kept_of old i had new has ⊎ ((new ≡ old) × (has ≡ had))
 
 -- What a caller has made of the lines of its script. Its own entries go on with the steps of the lines in their order, with a Collect
--- for each ask of them, and with a Leave at the end. It has an answer to each of these asks, in their order: each contract asked,
--- evaluated from inception over as many entries of the history that the pass has then seen as the ask's version says.
-pub record HasMade (old : Standing Entry) (i : ℕ) (lines : List Line) (answers : List Reply) (new : Standing Entry) : Type 0 where
+-- for each ask of them, and with a Leave at the end. It has what is kept of the answer to each of these asks, in their order: each
+-- contract asked, evaluated from inception over as many entries of the history that the pass has then seen as the ask's version says.
+pub record HasMade {A : Type 0} (kept_of : Reply → A) (old : Standing Entry) (i : ℕ) (lines : List Line) (answers : List A) (new : Standing Entry) : Type 0 where
   pub begins : IsPrefix old.seen new.seen
   pub marks : List Mark
   pub own : own_entries author_of new ≡ own_entries author_of old ++ map entry.Mark (marks ++ mark.Leave i ∷ [])
@@ -110,7 +110,7 @@ pub record HasMade (old : Standing Entry) (i : ℕ) (lines : List Line) (answers
   pub count : length made ≡ count_by asks lines
   pub asked : asks_by history i ≡ asks_by before i ++ made
   pub versions : All (λ (ask : Asking). ask.version ≤ version_of history) made
-  pub told : answers ≡ map (answer_to history.portfolio.contracts history.portfolio.names (entries_of history)) made
+  pub told : answers ≡ map kept_of (map (answer_to history.portfolio.contracts history.portfolio.names (entries_of history)) made)
 
 -- What a caller has made where memory ran out: its own entries go on with the steps of some of its first lines, in their order, beside answers
 -- that it has collected, and with a Leave at the end.
@@ -123,8 +123,8 @@ pub record HasStopped (old : Standing Entry) (i : ℕ) (lines : List Line) (new 
 
 -- ---- on the way
 
--- what is so of the history amid the lines of a caller: some were made, and some of their asks were answered
-pub record IsAmid (start : History) (i : ℕ) (done : List Line) (answers : List Reply) (now : History) : Type 0 where
+-- what is so of the history amid the lines of a caller: some were made, and some of their asks were answered, of which something is kept
+pub record IsAmid {A : Type 0} (kept_of : Reply → A) (start : History) (i : ℕ) (done : List Line) (answers : List A) (now : History) : Type 0 where
   pub portfolio : now.portfolio ≡ start.portfolio
   pub quotas : now.quotas ≡ start.quotas
   pub present : IsPresent now i
@@ -135,10 +135,10 @@ pub record IsAmid (start : History) (i : ℕ) (done : List Line) (answers : List
   pub versions : All (λ (ask : Asking). ask.version ≤ version_of now) made
   pub collected : collected_by now i ≡ collected_by start i + length answers
   pub fewer : length answers ≤ length made
-  pub told : answers ≡ map (answer_to start.portfolio.contracts start.portfolio.names (entries_of now)) (take (length answers) made)
+  pub told : answers ≡ map kept_of (map (answer_to start.portfolio.contracts start.portfolio.names (entries_of now)) (take (length answers) made))
 
 -- and what is so of its pass
-pub record IsMaking (old : Standing Entry) (i : ℕ) (done : List Line) (answers : List Reply) (new : Standing Entry) : Type 0 where
+pub record IsMaking {A : Type 0} (kept_of : Reply → A) (old : Standing Entry) (i : ℕ) (done : List Line) (answers : List A) (new : Standing Entry) : Type 0 where
   pub turn : new.turn ≡ old.turn
   pub number : new.number ≡ i
   pub holds : new.holds ≡ old.holds
@@ -147,7 +147,7 @@ pub record IsMaking (old : Standing Entry) (i : ℕ) (done : List Line) (answers
   pub had : old.seen ≡ list_of start
   pub now : History
   pub seen : new.seen ≡ list_of now
-  pub amid : IsAmid start i done answers now
+  pub amid : IsAmid kept_of start i done answers now
   pub marks : List Mark
   pub own : own_entries author_of new ≡ own_entries author_of old ++ map entry.Mark marks
   pub steps : filter_map item_of marks ≡ map (item_by i) done

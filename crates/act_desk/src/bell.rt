@@ -3,10 +3,12 @@ use std::sync::Wait;
 use std::sync::atomic::{AtomicU64, Ordering};
 
 /// Rings when something has changed, for threads that sleep until then. A thread counts the rings before it looks at what may have
-/// changed, and then sleeps only if none has come since.
+/// changed, and then sleeps only if none has come since. Where nobody sleeps or is about to, ringing takes no call of the system: a
+/// thread counts as a sleeper before it looks at the rings a last time, and who rings counts the ring before looking for sleepers.
 #[derive(Drop)]
 pub(crate) struct Bell {
     rings: AtomicU64,
+    sleepers: AtomicU64,
 }
 
 impl Bell {
@@ -14,6 +16,7 @@ impl Bell {
     pub(crate) fn new() -> Bell {
         Bell {
             rings: AtomicU64::new(0),
+            sleepers: AtomicU64::new(0),
         }
     }
 
@@ -25,22 +28,33 @@ impl Bell {
     /// Rings for one thread that sleeps.
     pub(crate) fn ring_one(&self) {
         self.rings.fetch_add(1, Ordering::SeqCst);
-        self.rings.wake_one();
+        self.wake_one();
     }
 
     /// Rings for all threads that sleep.
     pub(crate) fn ring_all(&self) {
         self.rings.fetch_add(1, Ordering::SeqCst);
-        self.rings.wake_all();
+        if self.has_sleepers() {
+            self.rings.wake_all();
+        }
     }
 
-    /// Wakes one thread more that still sleeps.
+    /// Wakes one thread more that still sleeps. A thread that is about to sleep needn't be woken: what it waits for was rung for.
     pub(crate) fn wake_one(&self) {
-        self.rings.wake_one();
+        if self.has_sleepers() {
+            self.rings.wake_one();
+        }
     }
 
     /// Sleeps until it rings, unless it has rung more often than that; a sleep may also end for no reason.
     pub(crate) fn sleep<R: Wait>(&self, rt: &R, rings: u64) {
+        self.sleepers.fetch_add(1, Ordering::SeqCst);
         self.rings.park(rt, (rings & 0xffff_ffff) as u32);
+        self.sleepers.fetch_sub(1, Ordering::SeqCst);
+    }
+
+    /// Whether a thread sleeps, or is about to or has just woken.
+    fn has_sleepers(&self) -> bool {
+        self.sleepers.load(Ordering::SeqCst) > 0
     }
 }

@@ -13,6 +13,7 @@ ghost use Rattle.act_desk.specs.Making.{HasCalled, HasCollected, HasGivenUp, Has
 ghost use Rattle.act_desk.specs.Step.{HasSeen, IsStep};
 
 use crate::desk::{Desk, DeskPass};
+use crate::from_answer::FromAnswer;
 use crate::working::Work;
 use act_board::{AppendFault, AskFault, Collected};
 use act_io::Gate;
@@ -45,7 +46,31 @@ impl Desk {
         ensures free { IsFree self.now.id pass.new }
         ensures number { pass.new.number ≡ caller }
         ensures begins { IsPrefix pass.old.seen pass.new.seen }
-        ensures made { IfOk result (λ answers. HasMade pass.old caller lines.now answers.items pass.new) }
+        ensures made { IfOk result (λ answers. HasMade (λ answer. answer) pass.old caller lines.now answers.items pass.new) }
+        ensures given_up { IfErr result (λ _. HasSeen pass.new (λ history. HasGivenUp history caller)) }
+        ensures stopped { IfErr result (λ _. HasStopped pass.old caller lines.now pass.new) }
+    {
+        self.caller_keeping(rt, alloc, pass, caller, lines, gate)
+    }
+
+    /// The same, but that of each answer it answers what is kept of it, `A`, and the answer goes once that is made.
+    pub fn caller_keeping<R: Wait, G: Gate, A: FromAnswer>(
+        &self,
+        rt: &R,
+        alloc: Global,
+        pass: &mut DeskPass,
+        caller: u32,
+        lines: &[Line],
+        gate: &G,
+    ) -> Result<Vec<A>, NoMemory>
+        requires free { IsFree self.now.id pass.old }
+        requires own { pass.old.number ≡ caller }
+        requires portfolio { HasSeen pass.old (λ history. history.portfolio ≡ self.now.portfolio) }
+        requires lines { HasSeen pass.old (λ history. MayMake history caller lines.now) }
+        ensures free { IsFree self.now.id pass.new }
+        ensures number { pass.new.number ≡ caller }
+        ensures begins { IsPrefix pass.old.seen pass.new.seen }
+        ensures made { IfOk result (λ answers. HasMade A.kept_of pass.old caller lines.now answers.items pass.new) }
         ensures given_up { IfErr result (λ _. HasSeen pass.new (λ history. HasGivenUp history caller)) }
         ensures stopped { IfErr result (λ _. HasStopped pass.old caller lines.now pass.new) }
     {
@@ -65,7 +90,7 @@ impl Desk {
     }
 
     /// Makes the steps of lines, and collects all answers.
-    fn make<R: Wait, G: Gate>(
+    fn make<R: Wait, G: Gate, A: FromAnswer>(
         &self,
         rt: &R,
         alloc: Global,
@@ -73,16 +98,16 @@ impl Desk {
         caller: u32,
         lines: &[Line],
         gate: &G,
-        answers: &mut Vec<Answer>,
+        answers: &mut Vec<A>,
     ) -> Result<(), NoMemory>
         requires free { IsFree self.now.id pass.old }
         requires own { pass.old.number ≡ caller }
         requires portfolio { HasSeen pass.old (λ history. history.portfolio ≡ self.now.portfolio) }
         requires lines { HasSeen pass.old (λ history. MayMake history caller lines.now) }
         requires none { answers.old.items ≡ [] }
-        ensures made { IfOk result (λ _. IsMaking pass.old caller lines.now answers.new.items pass.new) }
+        ensures made { IfOk result (λ _. IsMaking A.kept_of pass.old caller lines.now answers.new.items pass.new) }
         ensures all { IfOk result (λ _. length answers.new.items ≡ count_by asks lines.now) }
-        ensures some { IfErr result (λ _. (done : ℕ) × IsMaking pass.old caller (take done lines.now) answers.new.items pass.new) }
+        ensures some { IfErr result (λ _. (done : ℕ) × IsMaking A.kept_of pass.old caller (take done lines.now) answers.new.items pass.new) }
     {
         let asked = self.make_lines(rt, alloc, pass, caller, lines, gate, answers)?;
         'rest: while answers.len() < asked {
@@ -92,7 +117,7 @@ impl Desk {
     }
 
     /// Makes the steps of lines, and collects answers only where the next ask needs room. It answers how many asks were made.
-    fn make_lines<R: Wait, G: Gate>(
+    fn make_lines<R: Wait, G: Gate, A: FromAnswer>(
         &self,
         rt: &R,
         alloc: Global,
@@ -100,16 +125,16 @@ impl Desk {
         caller: u32,
         lines: &[Line],
         gate: &G,
-        answers: &mut Vec<Answer>,
+        answers: &mut Vec<A>,
     ) -> Result<usize, NoMemory>
         requires free { IsFree self.now.id pass.old }
         requires own { pass.old.number ≡ caller }
         requires portfolio { HasSeen pass.old (λ history. history.portfolio ≡ self.now.portfolio) }
         requires lines { HasSeen pass.old (λ history. MayMake history caller lines.now) }
         requires none { answers.old.items ≡ [] }
-        ensures made { IfOk result (λ _. IsMaking pass.old caller lines.now answers.new.items pass.new) }
+        ensures made { IfOk result (λ _. IsMaking A.kept_of pass.old caller lines.now answers.new.items pass.new) }
         ensures asked { IfOk result (λ asked. asked ≡ count_by asks lines.now) }
-        ensures some { IfErr result (λ _. (done : ℕ) × IsMaking pass.old caller (take done lines.now) answers.new.items pass.new) }
+        ensures some { IfErr result (λ _. (done : ℕ) × IsMaking A.kept_of pass.old caller (take done lines.now) answers.new.items pass.new) }
     {
         let mut asked = 0;
         for line in lines {
@@ -174,7 +199,7 @@ impl Desk {
     }
 
     /// Collects an answer where as many of the asks that were made are open as may be.
-    fn make_room<R: Wait, G: Gate>(
+    fn make_room<R: Wait, G: Gate, A: FromAnswer>(
         &self,
         rt: &R,
         alloc: Global,
@@ -182,7 +207,7 @@ impl Desk {
         caller: u32,
         gate: &G,
         asked: usize,
-        answers: &mut Vec<Answer>,
+        answers: &mut Vec<A>,
     ) -> Result<(), NoMemory>
         requires free { IsFree self.now.id pass.old }
         requires own { pass.old.number ≡ caller }
@@ -190,7 +215,7 @@ impl Desk {
         requires present { HasSeen pass.old (λ history. IsPresent history caller) }
         requires open { HasSeen pass.old (λ history. length (open_asks history caller) + length answers.old.items ≡ asked) }
         requires few { asked ≤ length answers.old.items + MOST_OPEN }
-        ensures collected { IfOk result (λ _. MayHaveCollected pass.old caller answers.old.items pass.new answers.new.items) }
+        ensures collected { IfOk result (λ _. MayHaveCollected A.kept_of pass.old caller answers.old.items pass.new answers.new.items) }
         ensures room { IfOk result (λ _. asked < length answers.new.items + MOST_OPEN) }
         ensures watched { IfErr result (λ _. HasWatched pass.old pass.new) }
         ensures kept { IfErr result (λ _. answers.new.items ≡ answers.old.items) }
@@ -201,28 +226,28 @@ impl Desk {
         Ok(())
     }
 
-    /// Collects the answer to the oldest open ask, and adds it to the answers. What that takes is reserved first.
-    fn collect_next<R: Wait, G: Gate>(
+    /// Collects the answer to the oldest open ask, and adds what is kept of it. What that takes is reserved first.
+    fn collect_next<R: Wait, G: Gate, A: FromAnswer>(
         &self,
         rt: &R,
         alloc: Global,
         pass: &mut DeskPass,
         caller: u32,
         gate: &G,
-        answers: &mut Vec<Answer>,
+        answers: &mut Vec<A>,
     ) -> Result<(), NoMemory>
         requires free { IsFree self.now.id pass.old }
         requires own { pass.old.number ≡ caller }
         requires portfolio { HasSeen pass.old (λ history. history.portfolio ≡ self.now.portfolio) }
         requires present { HasSeen pass.old (λ history. IsPresent history caller) }
         requires open { HasSeen pass.old (λ history. 0 < length (open_asks history caller)) }
-        ensures collected { IfOk result (λ _. HasCollected pass.old caller answers.old.items pass.new answers.new.items) }
+        ensures collected { IfOk result (λ _. HasCollected A.kept_of pass.old caller answers.old.items pass.new answers.new.items) }
         ensures watched { IfErr result (λ _. HasWatched pass.old pass.new) }
         ensures kept { IfErr result (λ _. answers.new.items ≡ answers.old.items) }
     {
         answers.reserve(1)?;
         let answer = self.collect_oldest(rt, alloc, pass, caller, gate)?;
-        answers.push_reserved(answer);
+        answers.push_reserved(A::from_answer(answer));
         Ok(())
     }
 

@@ -5,7 +5,9 @@
 mod bell;
 mod caller;
 mod desk;
+mod from_answer;
 mod worker;
 mod working;
 
 pub use desk::{Desk, DeskPass, MOST_WORKERS};
+pub use from_answer::FromAnswer;

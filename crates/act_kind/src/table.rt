@@ -92,7 +92,7 @@ pub fn with_state(state: State, taken: Result<Fixed, Stop>) -> Result<(Fixed, St
 /// settlement factor before the others, and then what accrues, what is paid and the change of the state. An event before
 /// a purchase pays nothing, and reads nothing for it. It ticks once; but where it stops it doesn't tick, and the state is
 /// of no use.
-// The compiler would take the state apart, and put it together again for each event.
+// Inlined, the compiler would take the state apart, and put it together again for each event.
 #[inline(never)]
 pub fn advance<T: Table, O: Observed, L: Ledger>(
     terms: &Terms,

@@ -1,3 +1,4 @@
 pub mod Kinds
 pub mod RedemptionDates
 pub mod Resets
+pub mod Tables

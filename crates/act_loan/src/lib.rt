@@ -19,7 +19,7 @@ mod steps;
 mod table;
 mod terms;
 
-pub use pam::{advance, schedule, start, step};
+pub use pam::{loan_table, schedule, start, step};
 pub use planning::resets_on;
 pub use reset::reset_rate;
 pub use steps::{advance_loan, start_loan, step_loan};

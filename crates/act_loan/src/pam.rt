@@ -1,7 +1,8 @@
 //! PAM: a loan whose notional is paid back at maturity.
 ghost use Rattle.std.specs.Prelude.{◌≡◌, ◌≢◌, [], IfOk, None, Some, Ok, Err};
-ghost use Rattle.act_kind.specs.Takes.{Takes, with_state};
+ghost use Rattle.act_kind.specs.Takes.{Takes};
 ghost use Rattle.act_kind.specs.Types.{AreTypes, IsAnswer};
+ghost use Rattle.act_loan.specs.Tables.{IsTableOf};
 ghost use Rattle.act_profile.specs.Built.{CyclesLeadOn, IsBuilt};
 ghost use Rattle.act_model.specs.Kind.{type_of};
 ghost use Rattle.act_profile.specs.LoanPlan.{loan_dates};
@@ -9,7 +10,8 @@ ghost use Rattle.act_profile.specs.LoanTerms.{loan_terms_of};
 ghost use Rattle.act_profile.specs.Plan.{plan_of};
 ghost use Rattle.act_profile.specs.Steps.{start_of, step_of};
 
-use crate::steps::{advance_loan, start_loan, step_loan};
+use crate::steps::{start_loan, step_loan};
+use crate::table::LoanTable;
 use crate::terms::LoanTerms;
 use act_kind::Planned;
 use act_model::{ContractType, Event, Kind, Observed, Plan, PlanFault, State, Stop, Terms};
@@ -56,24 +58,26 @@ pub fn step<O: Observed, L: Ledger>(
     requires plan { plan_of terms.now ≡ Ok plan.now }
     ensures { Takes result (step_of terms.now plan.now (O.entries seen.now) [] state.now event.now) steps.old steps.new }
 {
-    step_loan(terms, loan_terms(terms), plan, state, event, seen, steps)
+    step_loan(
+        terms,
+        &loan_table(terms, plan),
+        plan,
+        state,
+        event,
+        seen,
+        steps,
+    )
 }
 
-/// Takes the step of an event of a PAM, as [`step`] does, in place: the state becomes the one after
-/// the event, and what the event pays is answered. Where the run stops the state is of no use.
-pub fn advance<O: Observed, L: Ledger>(
-    terms: &Terms,
-    plan: &Plan,
-    state: &mut State,
-    event: &Event,
-    seen: &O,
-    steps: &mut Steps<L>,
-) -> Result<Fixed, Stop>
+/// The table of a PAM's steps, which is made once for all its events.
+#[inline(always)]
+#[tactic(auto, using(crate::proofs::Contracts::periods_of))]
+pub fn loan_table<'a>(terms: &'a Terms, plan: &'a Plan) -> LoanTable<'a>
     requires kind { type_of terms.now.kind ≡ ContractType.PAM }
     requires plan { plan_of terms.now ≡ Ok plan.now }
-    ensures { Takes (with_state state.new result) (step_of terms.now plan.now (O.entries seen.now) [] state.old event.now) steps.old steps.new }
+    ensures { IsTableOf result terms.now plan.now }
 {
-    advance_loan(terms, loan_terms(terms), plan, state, event, seen, steps)
+    LoanTable::new(loan_terms(terms), plan)
 }
 
 /// The terms of a PAM as a loan's.

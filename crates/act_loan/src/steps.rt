@@ -1,6 +1,7 @@
 //! The start and the steps of a loan, whatever its kind.
 ghost use Rattle.std.specs.Prelude.{◌≡◌, [], Some, Ok};
 ghost use Rattle.act_kind.specs.Takes.{Takes, with_state};
+ghost use Rattle.act_loan.specs.Tables.{IsTableOf};
 ghost use Rattle.act_profile.specs.Built.{CyclesLeadOn};
 ghost use Rattle.act_profile.specs.LoanPlan.{loan_plan};
 ghost use Rattle.act_profile.specs.LoanTerms.{loan_terms_of};
@@ -32,44 +33,40 @@ pub fn start_loan(terms: &Terms, loan: &LoanTerms<'_>, plan: &Plan) -> Result<St
     }
 }
 
-/// What an event of a loan pays and the state after it, or why the run stops there, by its terms as a loan's. Where it
-/// is Ok it ticks once, and else not at all. It takes no memory.
+/// What an event of a loan pays and the state after it, or why the run stops there, by the loan's table. Where it is Ok it
+/// ticks once, and else not at all. It takes no memory.
 pub fn step_loan<O: Observed, L: Ledger>(
     terms: &Terms,
-    loan: LoanTerms<'_>,
+    table: &LoanTable<'_>,
     plan: &Plan,
     state: &State,
     event: &Event,
     seen: &O,
     steps: &mut Steps<L>,
 ) -> Result<(Fixed, State), Stop>
-    requires loan { loan_terms_of terms.now.common terms.now.kind ≡ Some loan }
-    requires plan { plan_of terms.now ≡ Ok plan.now }
+    requires { IsTableOf table.now terms.now plan.now }
     ensures { Takes result (step_of terms.now plan.now (O.entries seen.now) [] state.now event.now) steps.old steps.new }
 {
     let mut next = *state;
-    let taken = advance_loan(terms, loan, plan, &mut next, event, seen, steps);
+    let taken = advance_loan(terms, table, plan, &mut next, event, seen, steps);
     with_state(next, taken)
 }
 
-/// Takes the step of an event of a loan, by its terms as a loan's, in place: the state becomes the one after the event,
-/// and what the event pays is answered, in one tick. Or it is answered why the run stops there, in no tick, and the state
-/// is of no use. It takes no memory.
+/// Takes the step of an event of a loan, by the loan's table, in place: the state becomes the one after the event, and what
+/// the event pays is answered, in one tick. Or it is answered why the run stops there, in no tick, and the state is of no
+/// use. It takes no memory.
 #[inline(always)]
-#[tactic(auto, using(crate::proofs::Contracts::periods_of))]
 pub fn advance_loan<O: Observed, L: Ledger>(
     terms: &Terms,
-    loan: LoanTerms<'_>,
+    table: &LoanTable<'_>,
     plan: &Plan,
     state: &mut State,
     event: &Event,
     seen: &O,
     steps: &mut Steps<L>,
 ) -> Result<Fixed, Stop>
-    requires loan { loan_terms_of terms.now.common terms.now.kind ≡ Some loan }
-    requires plan { plan_of terms.now ≡ Ok plan.now }
+    requires { IsTableOf table.now terms.now plan.now }
     ensures { Takes (with_state state.new result) (step_of terms.now plan.now (O.entries seen.now) [] state.old event.now) steps.old steps.new }
 {
-    let table = LoanTable::new(loan, plan);
-    advance(terms, plan, &table, state, event, seen, steps)
+    advance(terms, plan, table, state, event, seen, steps)
 }

@@ -289,7 +289,7 @@ pub(crate) fn are_alike(one: &Slim, shared: &Shared, other: &Slim, other_shared:
         & are_numbers_alike(one, shared, other, other_shared)
 }
 
-/// Whether two rows whose levels are printed alike have numbers that are, of which the rows have all but those of the level.
+/// Whether the numbers of two rows are printed alike, where their levels are.
 #[inline(always)]
 fn are_numbers_alike(one: &Slim, shared: &Shared, other: &Slim, other_shared: &Shared) -> bool
     requires here { HasParts shared.now one.now }
@@ -388,8 +388,8 @@ fn added<T: Copy>(list: &mut Vec<T>, one: T, more: usize) -> Result<u8, NoMemory
     Ok(place)
 }
 
-/// For how many more a list gets room where it is full. Of the first there is mostly no second, so it has room alone; behind it there
-/// is room for 16, and then for twice as many each time.
+/// For how many more a list gets room where it is full. Of the first there is mostly no second, so it has room alone; then there is
+/// room for 16 in all, and then for twice as many each time.
 fn more_room(count: usize) -> usize
     ensures { 1 ≤ result }
 {

@@ -7,15 +7,16 @@ ghost use Rattle.act_profile.specs.Run.{close_of, rows_from, stopped_at_once};
 ghost use Rattle.act_profile.specs.Steps.{currency_of, start_of, step_of};
 ghost use Rattle.act_run.specs.Resuming.{state_or_start, with_rows};
 
-use act_contract::{advance, currency_of, start};
+use act_contract::{advance, currency_of, loan_table, start};
 use act_model::{Close, Event, Observed, Plan, RowHead, Rows, Run, State, Stop, Terms};
 use act_num::{Fixed, NoMemory, Steps};
 use std::alloc::Global;
 use std::sync::Arc;
 use std::sync::ledger::Ledger;
 
-/// The state behind the first rows of a run, so many: that of the last of them, and of none what the contract begins with.
-pub(crate) fn state_behind(
+/// The state behind the first rows of a run, so many: that of the last of them, and of none what the contract begins with, or the
+/// stop where its starting state is undefined.
+pub(crate) fn state_or_start(
     terms: &Terms,
     plan: &Plan,
     rows: &Rows,
@@ -51,9 +52,12 @@ pub(crate) fn rows_behind<O: Observed, L: Ledger>(
         (currency_of terms.now (map arc_value children.now)) first events.now)) }
     ensures ticked { IfOk result (λ run. steps.new + length rows ≡ steps.old + length run.rows) }
 {
+    let table = loan_table(terms, plan);
     let mut state = first;
     'events: for event in events {
-        match advance(terms, plan, &mut state, event, children, seen, steps) {
+        match advance(
+            terms, &table, plan, &mut state, event, children, seen, steps,
+        ) {
             Ok(payoff) => rows.push(&head_of(terms, children, event, payoff), &state)?,
             Err(stop) => {
                 let close = close_of(stop);

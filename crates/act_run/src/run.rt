@@ -14,7 +14,7 @@ ghost use Rattle.act_swap.specs.Children.{AreInDayOrder, RunsAreInDayOrder};
 use crate::events::{events_of, observed_as, planned_events};
 use crate::kept::kept_count;
 use crate::limit::{Limit, limit_of};
-use crate::rows::{rows_behind, state_behind, stopped_at_once};
+use crate::rows::{rows_behind, state_or_start, stopped_at_once};
 use act_date::Day;
 use act_model::{Close, Event, Observed, Plan, Rows, Run, Terms};
 use act_num::{NoMemory, Steps};
@@ -105,7 +105,7 @@ fn run_behind<O: Observed, L: Ledger>(
     let mut made = Vec::new(alloc);
     let events = events_to_run(alloc, terms, plan, children, seen, &mut made)?;
     let limit = limit_of(alloc, terms, children, seen)?;
-    match state_behind(terms, plan, rows, count) {
+    match state_or_start(terms, plan, rows, count) {
         Ok(state) => {
             let before = before_limit(&limit, events);
             let kept = rows.first(alloc, count, before.len())?;

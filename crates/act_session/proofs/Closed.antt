@@ -32,58 +32,58 @@ All-at : {X : Type 0} (P : X → Type 0) (xs : List X) (k : ℕ) (x : X) → All
 All-at P xs k x all at = subst P (get_or_from_slice_get xs k x x at) (All-get_or P xs k x (slice_get_within xs k x at) all)
 
 -- the pass of the actor of a place
-pub pass-at : (actors : List Actor) (place : ℕ) (actor : Actor) → slice_get actors place ≡ Some actor → slice_get (passes_of actors) place ≡ Some actor.pass
-pass-at actors place actor at = slice_get-map (λ (a : Actor). a.pass) actors place ∙ ap (λ (o : Option Actor). option_map (λ (a : Actor). a.pass) o) at
+pub pass-at : {A : Type 0} (actors : List (Actor A)) (place : ℕ) (actor : Actor A) → slice_get actors place ≡ Some actor → slice_get (passes_of actors) place ≡ Some actor.pass
+pass-at {A} actors place actor at = slice_get-map (λ (a : Actor A). a.pass) actors place ∙ ap (λ (o : Option (Actor A)). option_map (λ (a : Actor A). a.pass) o) at
 
-module _ (desk : Desk) (scripts : List (List Line)) (actors : List Actor) (played : HavePlayed desk scripts actors) where
+module _ {A : Type 0} {kept_of : Reply → A} (desk : Desk) (scripts : List (List Line)) (actors : List (Actor A)) (played : HavePlayed kept_of desk scripts actors) where
   -- no pass holds anything
   pub all-free : All (IsFree desk.id) (passes_of actors)
-  all-free = All-map (IsFree desk.id) (λ (a : Actor). a.pass) actors (All-by_place (λ (a : Actor). IsFree desk.id a.pass) actors (λ place actor at. (played place actor at).free))
+  all-free = All-map (IsFree desk.id) (λ (a : Actor A). a.pass) actors (All-by_place (λ (a : Actor A). IsFree desk.id a.pass) actors (λ place actor at. (played place actor at).free))
 
   module _ (are : ArePlayable desk.portfolio scripts) (board : History) (sound : IsSound board)
       (begins : All (λ (p : Standing Entry). IsPrefix p.seen (list_of board)) (passes_of actors))
       (own : All (λ (p : Standing Entry). entries_of author_of p.number (list_of board) ≡ own_entries author_of p) (passes_of actors))
-      (answers : List (Vec Reply Global)) (enough : length scripts ≤ length actors) (taken : map Some answers ≡ take (length scripts) (answers_at actors)) where
+      (answers : List (Vec A Global)) (enough : length scripts ≤ length actors) (taken : map Some answers ≡ take (length scripts) (answers_at actors)) where
     answers-count : length answers ≡ length scripts
     answers-count =
-        let all : length (answers_at actors) ≡ length actors = length-map actors (λ (a : Actor). a.answers) in
+        let all : length (answers_at actors) ≡ length actors = length-map actors (λ (a : Actor A). a.answers) in
         sym (length-map answers Some) ∙ (ap length taken ∙ length-take-le (length scripts) (answers_at actors) (omega (arith, enough, all)))
 
     -- the actor whose answers stand at a place
-    record Its (place : ℕ) (replies : Vec Reply Global) : Type 0 where
-      actor : Actor
+    record Its (place : ℕ) (replies : Vec A Global) : Type 0 where
+      actor : Actor A
       at : slice_get actors place ≡ Some actor
       has : actor.answers ≡ Some replies
 
-    its : (place : ℕ) (replies : Vec Reply Global) → slice_get answers place ≡ Some replies → Its place replies
+    its : (place : ℕ) (replies : Vec A Global) → slice_get answers place ≡ Some replies → Its place replies
     its place replies at =
         let within : place < length scripts = let few = slice_get_within answers place replies at in omega (arith, few, answers-count) in
         let one : slice_get (answers_at actors) place ≡ Some (Some replies) =
         sym (get-take (answers_at actors) (length scripts) place within)
-        ∙ (ap (λ (xs : List (Option (Vec Reply Global))). slice_get xs place) (sym taken)
-        ∙ (slice_get-map Some answers place ∙ ap (λ (o : Option (Vec Reply Global)). option_map Some o) at)) in
+        ∙ (ap (λ (xs : List (Option (Vec A Global))). slice_get xs place) (sym taken)
+        ∙ (slice_get-map Some answers place ∙ ap (λ (o : Option (Vec A Global)). option_map Some o) at)) in
         elim (slice_get_cases actors place).1 [
           | inl found ↦ record {
             actor = found.0;
             at = found.2;
-            has = same_Some found.0.answers (Some replies) (sym (slice_get-map (λ (a : Actor). a.answers) actors place ∙ ap (λ (o : Option Actor). option_map (λ (a : Actor). a.answers) o) found.2) ∙ one);
+            has = same_Some found.0.answers (Some replies) (sym (slice_get-map (λ (a : Actor A). a.answers) actors place ∙ ap (λ (o : Option (Actor A)). option_map (λ (a : Actor A). a.answers) o) found.2) ∙ one);
           }
           | inr past ↦ absurd (omega (arith, past.0, within, enough))
         ]
 
-    its-made : (place : ℕ) (lines : List Line) (replies : Vec Reply Global) → slice_get scripts place ≡ Some lines → (is : Its place replies) → HasMade (first_pass desk scripts place) (place + 1) lines replies.items is.actor.pass
+    its-made : (place : ℕ) (lines : List Line) (replies : Vec A Global) → slice_get scripts place ≡ Some lines → (is : Its place replies) → HasMade kept_of (first_pass desk scripts place) (place + 1) lines replies.items is.actor.pass
     its-made place lines replies at is =
-        (subst (λ (o : Option (Vec Reply Global)). IfSome o (λ replies. (ls : List Line) → slice_get scripts place ≡ Some ls → HasMade (first_pass desk scripts place) (place + 1) ls replies.items is.actor.pass)) is.has
+        (subst (λ (o : Option (Vec A Global)). IfSome o (λ replies. (ls : List Line) → slice_get scripts place ≡ Some ls → HasMade kept_of (first_pass desk scripts place) (place + 1) ls replies.items is.actor.pass)) is.has
         (played place is.actor is.at).made) lines at
 
-    its-begins : (place : ℕ) (replies : Vec Reply Global) (is : Its place replies) → IsPrefix is.actor.pass.seen (list_of board)
+    its-begins : (place : ℕ) (replies : Vec A Global) (is : Its place replies) → IsPrefix is.actor.pass.seen (list_of board)
     its-begins place replies is = All-at (λ (p : Standing Entry). IsPrefix p.seen (list_of board)) (passes_of actors) place is.actor.pass begins (pass-at actors place is.actor is.at)
 
-    its-own : (place : ℕ) (replies : Vec Reply Global) (is : Its place replies) → entries_of author_of is.actor.pass.number (list_of board) ≡ own_entries author_of is.actor.pass
+    its-own : (place : ℕ) (replies : Vec A Global) (is : Its place replies) → entries_of author_of is.actor.pass.number (list_of board) ≡ own_entries author_of is.actor.pass
     its-own place replies is =
         All-at (λ (p : Standing Entry). entries_of author_of p.number (list_of board) ≡ own_entries author_of p) (passes_of actors) place is.actor.pass own (pass-at actors place is.actor is.at)
 
-    each : (place : ℕ) (lines : List Line) (replies : Vec Reply Global) → slice_get scripts place ≡ Some lines → slice_get answers place ≡ Some replies → HasAll board (place + 1) lines replies.items
+    each : (place : ℕ) (lines : List Line) (replies : Vec A Global) → slice_get scripts place ≡ Some lines → slice_get answers place ≡ Some replies → HasAll kept_of board (place + 1) lines replies.items
     each place lines replies at-lines at =
         let is = its place replies at in
         has-all desk scripts place lines replies.items is.actor.pass board (its-made place lines replies at-lines is) (played place is.actor is.at).number (its-begins place replies is) (its-own place replies is)
@@ -103,12 +103,12 @@ module _ (desk : Desk) (scripts : List (List Line)) (actors : List Actor) (playe
     pub closed-played : IsPlayed desk.portfolio scripts board
     closed-played = is-played desk.portfolio scripts answers board are.few sound first-opens.0 first-opens.1 answers-count each
 
-    pub closed-own : AreOwn board scripts answers
+    pub closed-own : AreOwn kept_of board scripts answers
     closed-own = all-own desk.portfolio scripts answers board are.few sound first-opens.0 first-opens.1 answers-count each
 
-    pub closed-answered : replies_of answers ≡ answers_of desk.portfolio.contracts desk.portfolio.names (journal_of board)
+    pub closed-answered : replies_of answers ≡ map kept_of (answers_of desk.portfolio.contracts desk.portfolio.names (journal_of board))
     closed-answered = all-answered desk.portfolio scripts answers board are.few sound first-opens.0 first-opens.1 answers-count each
 
 -- the pass of the actor of a place, as the desk gave it
-pub first-at : (actors : List Actor) (place : ℕ) (actor : Actor) (first : Standing Entry) → place < length actors → actor ≡ get_or actors place actor → slice_get (passes_of actors) place ≡ Some first → actor.pass ≡ first
+pub first-at : {A : Type 0} (actors : List (Actor A)) (place : ℕ) (actor : Actor A) (first : Standing Entry) → place < length actors → actor ≡ get_or actors place actor → slice_get (passes_of actors) place ≡ Some first → actor.pass ≡ first
 first-at actors place actor first within read numbered = same_Some actor.pass first (sym (pass-at actors place actor (slice_get_read actors (length actors) place actor refl within read)) ∙ numbered)

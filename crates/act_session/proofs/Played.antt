@@ -32,11 +32,11 @@ use Rattle.act_session.specs.Playing.{answers_by, first_pass, quotas_of}
 use Rattle.act_session.proofs.Marks.{marks_by, own-collects, own-items, own-leaves, own-marks, same-marks}
 
 -- what a board has of a caller that has made its lines
-pub record HasAll (board : History) (i : ℕ) (lines : List Line) (replies : List Reply) : Type 0 where
+pub record HasAll {A : Type 0} (kept_of : Reply → A) (board : History) (i : ℕ) (lines : List Line) (replies : List A) : Type 0 where
   pub items : items_by i (journal_of board) ≡ map (item_by i) lines
   pub collected : collected_by board i ≡ length (asks_by board i)
   pub left : has_left board i ≡ true
-  pub told : replies ≡ answers_by board i
+  pub told : replies ≡ map kept_of (answers_by board i)
 
 -- a history whose list has only an opening has no asks
 none-first : (of : Accepted) (quotas : List ℕ) (before : History) (i : ℕ) → list_of (opening of quotas) ≡ list_of before → asks_by before i ≡ []
@@ -44,8 +44,8 @@ none-first of quotas before i same =
     let none : [] ≡ map entry.Mark before.marks = cc in
     sym (ap (λ (marks : List Mark). caller_asks (filter_map item_of marks) i) (same-marks [] before.marks none))
 
-module _ (desk : Desk) (scripts : List (List Line)) (place : ℕ) (lines : List Line) (replies : List Reply) (pass : Standing Entry) (board : History)
-    (made : HasMade (first_pass desk scripts place) (place + 1) lines replies pass) (number : pass.number ≡ place + 1)
+module _ {A : Type 0} {kept_of : Reply → A} (desk : Desk) (scripts : List (List Line)) (place : ℕ) (lines : List Line) (replies : List A) (pass : Standing Entry) (board : History)
+    (made : HasMade kept_of (first_pass desk scripts place) (place + 1) lines replies pass) (number : pass.number ≡ place + 1)
     (begins : IsPrefix pass.seen (list_of board)) (own : own_of author_of pass.number (list_of board) ≡ own_entries author_of pass) where
   -- the caller's entries of the board are those of its pass
   its-own : own_of author_of (place + 1) (list_of board) ≡ own_entries author_of pass
@@ -65,17 +65,18 @@ module _ (desk : Desk) (scripts : List (List Line)) (place : ℕ) (lines : List 
       asks-stay (place + 1) made.history board goes
       ∙ (made.asked ∙ ap (λ (asks : List Asking). asks ++ made.made) (none-first desk.portfolio (quotas_of scripts) made.before (place + 1) made.had))
 
-  its-answers : replies ≡ answers_by board (place + 1)
+  its-answers : replies ≡ map kept_of (answers_by board (place + 1))
   its-answers =
       let of : Accepted = made.history.portfolio in
       let book = book-goes (place + 1) made.history board goes in
       made.told
-      ∙ (sym (all-told of.contracts of.names (entries_of made.history) book.0 made.made made.versions)
+      ∙ ap (map kept_of)
+      (sym (all-told of.contracts of.names (entries_of made.history) book.0 made.made made.versions)
       ∙ (ap (λ (entries : List Obs). map (answer_to of.contracts of.names entries) made.made) (sym book.1)
       ∙ (ap (λ (p : Accepted). map (answer_to p.contracts p.names (entries_of board)) made.made) (sym (names-stay (place + 1) made.history board goes))
       ∙ ap (λ (asks : List Asking). map (answer_to board.portfolio.contracts board.portfolio.names (entries_of board)) asks) (sym its-asks))))
 
-  pub has-all : HasAll board (place + 1) lines replies
+  pub has-all : HasAll kept_of board (place + 1) lines replies
   has-all = record {
     items =
         own-items (place + 1) board.marks

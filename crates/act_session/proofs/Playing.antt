@@ -50,29 +50,29 @@ module _ (of : Accepted) (scripts : List (List Line)) (place : ℕ) (lines : Lis
         known = playable.known;
       }
 
-module _ (desk : Desk) (scripts : List (List Line)) (place : ℕ) (old new : Standing Entry) (first : old ≡ first_pass desk scripts place) where
+module _ {A : Type 0} (kept_of : Reply → A) (desk : Desk) (scripts : List (List Line)) (place : ℕ) (old new : Standing Entry) (first : old ≡ first_pass desk scripts place) where
   -- a caller that has its answers has made its lines
-  pub caller-made : (lines : List Line) (result : Result (Vec Reply Global) NoMemory) → slice_get scripts place ≡ Some lines → IfOk result (λ replies. HasMade old (place + 1) lines replies.items new)
-      → IfSome (result_ok result) (λ replies. (ls : List Line) → slice_get scripts place ≡ Some ls → HasMade (first_pass desk scripts place) (place + 1) ls replies.items new)
+  pub caller-made : (lines : List Line) (result : Result (Vec A Global) NoMemory) → slice_get scripts place ≡ Some lines → IfOk result (λ replies. HasMade kept_of old (place + 1) lines replies.items new)
+      → IfSome (result_ok result) (λ replies. (ls : List Line) → slice_get scripts place ≡ Some ls → HasMade kept_of (first_pass desk scripts place) (place + 1) ls replies.items new)
   caller-made lines (Ok replies) at made = λ ls at-ls.
-      subst (λ (ls : List Line). HasMade (first_pass desk scripts place) (place + 1) ls replies.items new) (same_Some lines ls (sym at ∙ at-ls))
-      (subst (λ (pass : Standing Entry). HasMade pass (place + 1) lines replies.items new) first made)
+      subst (λ (ls : List Line). HasMade kept_of (first_pass desk scripts place) (place + 1) ls replies.items new) (same_Some lines ls (sym at ∙ at-ls))
+      (subst (λ (pass : Standing Entry). HasMade kept_of pass (place + 1) lines replies.items new) first made)
   caller-made lines (Err fault) at made = tt
 
   -- behind the scripts there are workers
-  pub worker-played : (answers : Option (Vec Reply Global)) → length scripts ≤ place → HasWatched old new → HasPlayed desk scripts place new answers
+  pub worker-played : (answers : Option (Vec A Global)) → length scripts ≤ place → HasWatched old new → HasPlayed kept_of desk scripts place new answers
   worker-played answers behind watched = record {
     free = (watched.turn ∙ ap (λ (p : Standing Entry). p.turn) first, watched.holds ∙ ap (λ (p : Standing Entry). p.holds) first);
     number = watched.number ∙ ap (λ (p : Standing Entry). p.number) first;
     made = none answers;
   }
     where
-      none : (answers : Option (Vec Reply Global)) → IfSome answers (λ replies. (lines : List Line) → slice_get scripts place ≡ Some lines → HasMade (first_pass desk scripts place) (place + 1) lines replies.items new)
+      none : (answers : Option (Vec A Global)) → IfSome answers (λ replies. (lines : List Line) → slice_get scripts place ≡ Some lines → HasMade kept_of (first_pass desk scripts place) (place + 1) lines replies.items new)
       none (Some replies) = λ lines at. absurd (let within = slice_get_within scripts place lines at in omega (arith, within, behind))
       none None = tt
 
 -- an actor has played that is what a call has left of the actor of its place
-pub played-at : (desk : Desk) (scripts : List (List Line)) (place at : ℕ) (actor left there : Actor) → left ≡ there → actor ≡ there → at ≡ place
-    → HasPlayed desk scripts at left.pass left.answers → HasPlayed desk scripts place actor.pass actor.answers
-played-at desk scripts place at actor left there is read same played =
-    subst (λ (a : Actor). HasPlayed desk scripts place a.pass a.answers) (is ∙ sym read) (subst (λ (k : ℕ). HasPlayed desk scripts k left.pass left.answers) same played)
+pub played-at : {A : Type 0} {kept_of : Reply → A} (desk : Desk) (scripts : List (List Line)) (place at : ℕ) (actor left there : Actor A) → left ≡ there → actor ≡ there → at ≡ place
+    → HasPlayed kept_of desk scripts at left.pass left.answers → HasPlayed kept_of desk scripts place actor.pass actor.answers
+played-at {A} {kept_of} desk scripts place at actor left there is read same played =
+    subst (λ (a : Actor A). HasPlayed kept_of desk scripts place a.pass a.answers) (is ∙ sym read) (subst (λ (k : ℕ). HasPlayed kept_of desk scripts k left.pass left.answers) same played)

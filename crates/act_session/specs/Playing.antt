@@ -22,8 +22,8 @@ use Rattle.act_session.specs.Interleaving.{IsInterleaving}
 abbrev pub lines_of : List (Vec Line Global) → List (List Line)
 lines_of scripts = map (λ script. script.items) scripts
 
--- the answers of all callers, one caller's after another's
-abbrev pub replies_of : List (Vec Reply Global) → List Reply
+-- what all callers keep of their answers, one caller's after another's
+abbrev pub replies_of : {A : Type 0} → List (Vec A Global) → List A
 replies_of answers = flat_map (λ replies. replies.items) answers
 
 -- the answers to the asks of a caller of a board, in their order: each contract asked, evaluated from inception over the entries before
@@ -31,9 +31,9 @@ replies_of answers = flat_map (λ replies. replies.items) answers
 abbrev pub answers_by : History → ℕ → List Reply
 answers_by board i = map (answer_to board.portfolio.contracts board.portfolio.names (entries_of board)) (asks_by board i)
 
--- for each script a list has the answers to the asks of its caller
-abbrev pub AreOwn : History → List (List Line) → List (Vec Reply Global) → Type 0
-AreOwn board scripts answers = map (λ replies. replies.items) answers ≡ map (answers_by board) (range_with_len 1 (length scripts))
+-- for each script a list has what is kept of the answers to the asks of its caller
+abbrev pub AreOwn : {A : Type 0} → (Reply → A) → History → List (List Line) → List (Vec A Global) → Type 0
+AreOwn kept_of board scripts answers = map (λ replies. replies.items) answers ≡ map (λ i. map kept_of (answers_by board i)) (range_with_len 1 (length scripts))
 
 -- how many entries each script appends
 abbrev pub quotas_of : List (List Line) → List ℕ
@@ -67,9 +67,10 @@ pub record IsPlayed (of : Accepted) (scripts : List (List Line)) (board : Histor
 abbrev pub first_pass : Desk → List (List Line) → ℕ → Standing Entry
 first_pass desk scripts place = first_standing desk.id (place + 1) (list_of (opening desk.portfolio (quotas_of scripts)))
 
--- What an actor has done at a place. Its pass holds nothing, and a caller that has answers has made the lines of its script.
-pub record HasPlayed (desk : Desk) (scripts : List (List Line)) (place : ℕ) (pass : Standing Entry) (answers : Option (Vec Reply Global)) : Type 0 where
+-- What an actor has done at a place. Its pass holds nothing, and a caller that has answers, or what it keeps of them, has made the lines of
+-- its script.
+pub record HasPlayed {A : Type 0} (kept_of : Reply → A) (desk : Desk) (scripts : List (List Line)) (place : ℕ) (pass : Standing Entry) (answers : Option (Vec A Global)) : Type 0 where
   pub free : IsFree desk.id pass
   pub number : pass.number ≡ place + 1
   pub made : IfSome answers (λ replies. (lines : List Line) → slice_get scripts place ≡ Some lines
-      → HasMade (first_pass desk scripts place) (place + 1) lines replies.items pass)
+      → HasMade kept_of (first_pass desk scripts place) (place + 1) lines replies.items pass)

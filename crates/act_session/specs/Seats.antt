@@ -10,13 +10,13 @@ use Rattle.act_session.specs.Playing.{HasPlayed}
 use Rattle.act_session.specs.declared.actor.Actor.{Actor}
 
 -- their passes, in their order
-abbrev pub passes_of : List Actor → List (Standing Entry)
-passes_of actors = map (λ (actor : Actor). actor.pass) actors
+abbrev pub passes_of : {A : Type 0} → List (Actor A) → List (Standing Entry)
+passes_of {A} actors = map (λ (actor : Actor A). actor.pass) actors
 
--- and the answers of each, if it has some
-abbrev pub answers_at : List Actor → List (Option (Vec Reply Global))
-answers_at actors = map (λ (actor : Actor). actor.answers) actors
+-- and what each keeps of its answers, if it has some
+abbrev pub answers_at : {A : Type 0} → List (Actor A) → List (Option (Vec A Global))
+answers_at {A} actors = map (λ (actor : Actor A). actor.answers) actors
 
 -- each has played at its place
-abbrev pub HavePlayed : Desk → List (List Line) → List Actor → Type 0
-HavePlayed desk scripts actors = (place : ℕ) (actor : Actor) → slice_get actors place ≡ Some actor → HasPlayed desk scripts place actor.pass actor.answers
+abbrev pub HavePlayed : {A : Type 0} → (Reply → A) → Desk → List (List Line) → List (Actor A) → Type 0
+HavePlayed {A} kept_of desk scripts actors = (place : ℕ) (actor : Actor A) → slice_get actors place ≡ Some actor → HasPlayed kept_of desk scripts place actor.pass actor.answers

@@ -2,19 +2,19 @@
 ghost use Rattle.std.specs.Prelude.{◌≡◌};
 ghost use Rattle.act_session.specs.Playing.{ArePlayable, HasPlayed, first_pass, lines_of};
 
-use act_desk::{Desk, DeskPass};
+use act_desk::{Desk, DeskPass, FromAnswer};
 use act_io::Gate;
-use act_model::{Answer, Line};
+use act_model::Line;
 use std::alloc::Global;
 use std::sync::Wait;
 
-/// A caller or a worker: its pass, and the answers of a caller that has made its lines.
-pub(crate) struct Actor {
+/// A caller or a worker: its pass, and what a caller that has made its lines keeps of its answers.
+pub(crate) struct Actor<A> {
     pub(crate) pass: DeskPass,
-    pub(crate) answers: Option<Vec<Answer>>,
+    pub(crate) answers: Option<Vec<A>>,
 }
 
-impl Actor {
+impl<A: FromAnswer> Actor<A> {
     /// Plays the part of a place: that of the caller of the script there, or behind the scripts that of a worker. A caller has no
     /// answers where memory ran out.
     pub(crate) fn play<R: Wait, G: Gate>(
@@ -28,13 +28,13 @@ impl Actor {
     )
         requires scripts { ArePlayable desk.now.portfolio (lines_of scripts.now) }
         requires first { self.old.pass ≡ first_pass desk.now (lines_of scripts.now) place }
-        ensures { HasPlayed desk.now (lines_of scripts.now) place self.new.pass self.new.answers }
+        ensures { HasPlayed A.kept_of desk.now (lines_of scripts.now) place self.new.pass self.new.answers }
     {
         match scripts.get(place) {
             Some(lines) => {
                 let number = place as u32 + 1;
                 self.answers = desk
-                    .caller(rt, alloc, &mut self.pass, number, lines, gate)
+                    .caller_keeping(rt, alloc, &mut self.pass, number, lines, gate)
                     .ok();
             }
             None => {

@@ -5,8 +5,8 @@ ghost use Rattle.act_session.specs.Playing as playing;
 ghost use Rattle.act_session.specs.Seats.{answers_at, passes_of};
 
 use crate::actor::Actor;
-use act_desk::DeskPass;
-use act_model::{Answer, Line, Step};
+use act_desk::{DeskPass, FromAnswer};
+use act_model::{Line, Step};
 use act_num::NoMemory;
 use std::alloc::Global;
 
@@ -32,7 +32,7 @@ fn entries_in(lines: &[Line]) -> u64
 }
 
 /// Gives each pass an actor, in their order. The list of the passes is left empty, with the room that it has.
-pub(crate) fn seat(passes: &mut Vec<DeskPass>, actors: &mut Vec<Actor>)
+pub(crate) fn seat<A>(passes: &mut Vec<DeskPass>, actors: &mut Vec<Actor<A>>)
     requires none { actors.old.items ≡ [] }
     requires room { vec_len passes.old ≤ vec_capacity actors.old }
     ensures passes { passes_of actors.new.items ≡ passes.old.items }
@@ -49,7 +49,7 @@ pub(crate) fn seat(passes: &mut Vec<DeskPass>, actors: &mut Vec<Actor>)
 }
 
 /// Takes the passes of all actors back, in their order. The list of the actors is left empty.
-pub(crate) fn rise(actors: &mut Vec<Actor>, passes: &mut Vec<DeskPass>)
+pub(crate) fn rise<A: FromAnswer>(actors: &mut Vec<Actor<A>>, passes: &mut Vec<DeskPass>)
     requires none { passes.old.items ≡ [] }
     requires room { vec_len actors.old ≤ vec_capacity passes.old }
     ensures passes { passes.new.items ≡ passes_of actors.old.items }
@@ -63,12 +63,12 @@ pub(crate) fn rise(actors: &mut Vec<Actor>, passes: &mut Vec<DeskPass>)
     passes.reverse();
 }
 
-/// Takes the answers of the first so many actors, where each of these has some, and adds them to a list.
-pub(crate) fn take_answers(
-    actors: &mut [Actor],
+/// Takes what the first so many actors keep of answers, where each of these has some, and adds it to a list.
+pub(crate) fn take_answers<A: FromAnswer>(
+    actors: &mut [Actor<A>],
     count: usize,
-    answers: Vec<Vec<Answer>>,
-) -> Option<Vec<Vec<Answer>>>
+    answers: Vec<Vec<A>>,
+) -> Option<Vec<Vec<A>>>
     requires count { count ≤ length actors.old }
     requires none { answers.items ≡ [] }
     requires room { count ≤ vec_capacity answers }

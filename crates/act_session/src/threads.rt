@@ -1,5 +1,5 @@
 //! Sessions, whose actors have a thread each.
-ghost use Rattle.std.specs.Prelude.{◌≡◌, ◌-◌, ◌<◌, ◌≤◌, [], IfOk, length, vec_capacity, vec_len};
+ghost use Rattle.std.specs.Prelude.{◌≡◌, ◌-◌, ◌<◌, ◌≤◌, [], IfOk, length, map, vec_capacity, vec_len};
 ghost use Rattle.std.specs.Arc.{arc_value};
 ghost use Rattle.act_profile.specs.Answers as asked;
 ghost use Rattle.act_turn.specs.Standing.{AreNumbered};
@@ -13,9 +13,9 @@ ghost use Rattle.act_session.specs.Seats.{HavePlayed, passes_of};
 use crate::actor::Actor;
 use crate::outcome::Session;
 use crate::seats::{quotas_of, rise, seat, take_answers};
-use act_desk::{Desk, DeskPass, MOST_WORKERS};
+use act_desk::{Desk, DeskPass, FromAnswer, MOST_WORKERS};
 use act_io::Gate;
-use act_model::{Answer, Line};
+use act_model::Line;
 use act_num::NoMemory;
 use act_portfolio::Portfolio;
 use std::alloc::Global;
@@ -23,22 +23,23 @@ use std::sync::{Arc, Wait};
 use std::thread::{Threads, for_each_mut};
 
 /// Plays scripts on one board of a portfolio. For each script there is a caller, 1 to 16, which makes the steps of its lines, collects
-/// its answers and leaves; beside them so many workers, at most 64, make evaluations. Each has a thread of its own, where one can be
-/// made. What is added is allocated by `alloc`, and the gate is told before and after each evaluation. Where memory runs out for a
-/// caller there are no answers.
-pub fn session<R: Threads + Wait + Sync, G: Gate>(
+/// its answers and leaves; of each answer it keeps an `A`. Beside them so many workers, at most 64, make evaluations. Each has a thread
+/// of its own, where one can be made. What is added is allocated by `alloc`, and the gate is told before and after each evaluation.
+/// Where memory runs out for a caller there are no answers.
+pub fn session<R: Threads + Wait + Sync, G: Gate, A: FromAnswer>(
     rt: &R,
     alloc: Global,
     portfolio: Arc<Portfolio, Global>,
     scripts: &[Vec<Line>],
     workers: u32,
     gate: &G,
-) -> Result<Session, NoMemory>
+) -> Result<Session<A>, NoMemory>
     requires scripts { ArePlayable (arc_value portfolio) (lines_of scripts.now) }
     requires workers { workers ≤ MOST_WORKERS }
     ensures board { IfOk result (λ s. IsPlayed (arc_value portfolio) (lines_of scripts.now) s.board) }
-    ensures own { IfOk result (λ s. AreOwn s.board (lines_of scripts.now) s.answers.items) }
-    ensures answers { IfOk result (λ s. replies_of s.answers.items ≡ asked.answers_of (arc_value portfolio).contracts (arc_value portfolio).names (journal_of s.board)) }
+    ensures own { IfOk result (λ s. AreOwn A.kept_of s.board (lines_of scripts.now) s.answers.items) }
+    ensures answers { IfOk result (λ s. replies_of s.answers.items
+        ≡ map A.kept_of (asked.answers_of (arc_value portfolio).contracts (arc_value portfolio).names (journal_of s.board))) }
 {
     let quotas = quotas_of(alloc, scripts)?;
     let answers = Vec::with_capacity(alloc, scripts.len())?;
@@ -56,18 +57,18 @@ pub fn session<R: Threads + Wait + Sync, G: Gate>(
 /// Lets each actor play its part, in a thread of its own. Where a thread can't be made, calls of `for_each_mut` are made one after
 /// another in one thread, from the last place down. A caller needs nobody else to end, and a worker ends only once all callers have
 /// left, so the workers stand before the callers meanwhile.
-fn play_all<R: Threads + Wait + Sync, G: Gate>(
+fn play_all<R: Threads + Wait + Sync, G: Gate, A: FromAnswer>(
     rt: &R,
     alloc: Global,
     desk: &Desk,
-    actors: &mut [Actor],
+    actors: &mut [Actor<A>],
     scripts: &[Vec<Line>],
     gate: &G,
 )
     requires scripts { ArePlayable desk.now.portfolio (lines_of scripts.now) }
     requires some { 0 < length actors.old }
     requires first { AreNumbered desk.now.id (list_of (opening desk.now.portfolio (playing.quotas_of (lines_of scripts.now)))) (passes_of actors.old) }
-    ensures { HavePlayed desk.now (lines_of scripts.now) actors.new }
+    ensures { HavePlayed A.kept_of desk.now (lines_of scripts.now) actors.new }
 {
     let count = actors.len();
     actors.reverse();
@@ -75,11 +76,11 @@ fn play_all<R: Threads + Wait + Sync, G: Gate>(
         rt,
         actors,
         count,
-        &|turned: usize, actor: &mut Actor|
+        &|turned: usize, actor: &mut Actor<A>|
             requires place { turned < count }
             requires scripts { ArePlayable desk.now.portfolio (lines_of scripts.now) }
             requires first { actor.now.pass ≡ first_pass desk.now (lines_of scripts.now) (count - 1 - turned) }
-            ensures { HasPlayed desk.entry.now (lines_of scripts.entry.now) (count - 1 - turned) actor.exit.now.pass actor.exit.now.answers }
+            ensures { HasPlayed A.kept_of desk.entry.now (lines_of scripts.entry.now) (count - 1 - turned) actor.exit.now.pass actor.exit.now.answers }
         { actor.play(rt, alloc, desk, count - 1 - turned, scripts, gate) },
     );
     actors.reverse();
@@ -87,22 +88,23 @@ fn play_all<R: Threads + Wait + Sync, G: Gate>(
 
 /// Takes the answers and the passes of actors that have played, and ends the desk. The passes are put into a list with room for them,
 /// and so are the answers.
-fn end(
+fn end<A: FromAnswer>(
     desk: Desk,
-    mut actors: Vec<Actor>,
+    mut actors: Vec<Actor<A>>,
     scripts: &[Vec<Line>],
     mut passes: Vec<DeskPass>,
-    answers: Vec<Vec<Answer>>,
-) -> Result<Session, NoMemory>
+    answers: Vec<Vec<A>>,
+) -> Result<Session<A>, NoMemory>
     requires scripts { ArePlayable desk.portfolio (lines_of scripts.now) }
-    requires played { HavePlayed desk (lines_of scripts.now) actors.items }
+    requires played { HavePlayed A.kept_of desk (lines_of scripts.now) actors.items }
     requires seats { vec_len actors ≡ desk.seats }
     requires callers { length scripts.now ≤ vec_len actors }
     requires none { (passes.items ≡ []) × (answers.items ≡ []) }
     requires room { (vec_len actors ≤ vec_capacity passes) × (length scripts.now ≤ vec_capacity answers) }
     ensures board { IfOk result (λ s. IsPlayed desk.portfolio (lines_of scripts.now) s.board) }
-    ensures own { IfOk result (λ s. AreOwn s.board (lines_of scripts.now) s.answers.items) }
-    ensures answers { IfOk result (λ s. replies_of s.answers.items ≡ asked.answers_of desk.portfolio.contracts desk.portfolio.names (journal_of s.board)) }
+    ensures own { IfOk result (λ s. AreOwn A.kept_of s.board (lines_of scripts.now) s.answers.items) }
+    ensures answers { IfOk result (λ s. replies_of s.answers.items
+        ≡ map A.kept_of (asked.answers_of desk.portfolio.contracts desk.portfolio.names (journal_of s.board))) }
 {
     let taken = take_answers(actors.as_mut_slice(), scripts.len(), answers);
     rise(&mut actors, &mut passes);

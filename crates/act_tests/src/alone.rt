@@ -36,7 +36,7 @@ fn play<R: Threads + Wait + Abort + Sync>(
     portfolio: Arc<Portfolio, Global>,
     first: Obs,
     second: Obs,
-) -> Session
+) -> Session<Answer>
     requires first { is_entry first ≡ true }
     requires second { is_entry second ≡ true }
 {

@@ -1,13 +1,6 @@
--- Lines with bytes in front of them and behind.
-use Rattle.std.proofs.Common.{◌≡◌, ℕ, ◌+◌, ◌≤◌, List, ◌++◌, take, drop, length, sym, ap, ◌∙◌}
-use Rattle.std.proofs.lemmas.List.{drop-append-le, drop-take, take-append-drop, take-take}
-
--- a text is its front, its lines and its back
-pub three_parts : (begin end : ℕ) (text : List ℕ) → begin ≤ end → (take begin text ++ drop begin (take end text)) ++ drop end text ≡ text
-three_parts begin end text within =
-    ap (λ front. (front ++ drop begin (take end text)) ++ drop end text) (sym (take-take begin end text within))
-    ∙ ap (λ lines. lines ++ drop end text) (take-append-drop begin (take end text))
-    ∙ take-append-drop end text
+-- Lines with bytes in front of them.
+use Rattle.std.proofs.Common.{◌≡◌, ℕ, ◌+◌, ◌≤◌, List, ◌++◌, take, drop, length, ap, ◌∙◌}
+use Rattle.std.proofs.lemmas.List.{drop-append-le, drop-take}
 
 -- a line more behind them
 pub line_behind : (begin : ℕ) (text text' line : List ℕ) → begin ≤ length text → text' ≡ text ++ line → drop begin text' ≡ drop begin text ++ line

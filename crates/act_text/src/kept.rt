@@ -48,7 +48,9 @@ impl<'a> RowLines<'a> {
     /// No lines yet, and nothing in front of them. They are written with these names.
     pub fn new(alloc: Global, names: &'a Names) -> RowLines<'a>
         ensures names { result.names ≡ names.now }
+        ensures front { result.front ≡ [] }
         ensures rows { result.rows ≡ [] }
+        ensures back { result.back ≡ [] }
     {
         RowLines {
             names,
@@ -68,11 +70,13 @@ impl<'a> RowLines<'a> {
         &self.text
     }
 
-    /// Puts other bytes in front of the lines. Where memory runs out, the lines stay.
+    /// Puts other bytes in front of the lines; nothing stands behind them then. Where memory runs out, what stood in front stays.
     pub fn put_front(&mut self, front: &[u8]) -> Result<(), NoMemory>
         ensures names { self.new.names ≡ self.old.names }
         ensures rows { self.new.rows ≡ self.old.rows }
         ensures front { OnOk result (self.new.front ≡ front.now) }
+        ensures unchanged { OnErr result (self.new.front ≡ self.old.front) }
+        ensures back { self.new.back ≡ [] }
     {
         self.text.truncate(self.end);
         put_first(&mut self.text, self.begin, front)?;
@@ -81,12 +85,13 @@ impl<'a> RowLines<'a> {
         Ok(())
     }
 
-    /// Puts behind the lines how rows close, in place of what stood there. Where memory runs out, the lines stay.
+    /// Puts the line of how rows close behind the lines, in place of what stood there. Where memory runs out, nothing stands there.
     pub fn put_close(&mut self, close: &Close) -> Result<(), NoMemory>
         ensures names { self.new.names ≡ self.old.names }
         ensures front { self.new.front ≡ self.old.front }
         ensures rows { self.new.rows ≡ self.old.rows }
         ensures back { OnOk result (self.new.back ≡ close_text self.old.names close.now) }
+        ensures none { OnErr result (self.new.back ≡ []) }
     {
         self.text.truncate(self.end);
         close_line(self.names, close, &mut self.text)
@@ -102,6 +107,7 @@ impl<'a> RowLines<'a> {
         ensures names { self.new.names ≡ self.old.names }
         ensures front { self.new.front ≡ self.old.front }
         ensures rows { OnOk result (self.new.rows ≡ (arc_value run.now).rows) }
+        ensures back { OnOk result (self.new.back ≡ []) }
         ensures fewer { OnErr result ((self.new ≡ self.old)
             ⊎ ((count : ℕ) × (self.new.rows ≡ take count (arc_value run.now).rows))) }
     {

@@ -13,7 +13,8 @@ use Rattle.act_script.specs.Results.{result_and_then}
 use Rattle.act_session.specs.Playing.{IsPlayed}
 use Rattle.act_session.specs.declared.outcome.Session.{Session}
 use Rattle.act_top.specs.Big.{BigWhole, EndsAsBig, IsBigBoard, IsBoardOfBig, IsOneScript, RunsBig, big_outcome, big_read, big_text, big_told, big_weighed, script_made}
-use Rattle.act_top.specs.BigTotals.{totals_text}
+use Rattle.act_top.specs.BigTotals.{answer_totals, totals_text}
+use Rattle.act_top.specs.declared.big_totals.Totals.{Totals}
 use Rattle.act_top.specs.Desk.{DeskJob, weighed_job}
 use Rattle.act_top.specs.Halts.{RefusesOnly, halt_outcome, refusal_of}
 use Rattle.act_top.specs.Output.{Outcome, portfolio_accepted, status_of, too_much_asked}
@@ -173,7 +174,7 @@ module _ (size : ℕ) (board : Option History) (before after : Option (List ℕ)
 
 -- ---- what was played
 
-module _ (job : DeskJob) (script : Script) (one : IsOneScript job script) (played : Session) (of : IsPlayOf job played) where
+module _ (job : DeskJob) (script : Script) (one : IsOneScript job script) (played : Session Totals) (of : IsPlayOf answer_totals job played) where
   -- the script was
   script-played : IsPlayed job.portfolio (script.lines ∷ []) played.board
   script-played = subst (λ (lists : List (List Line)). IsPlayed job.portfolio lists played.board) one.lines of.played

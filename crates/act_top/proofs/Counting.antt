@@ -1,11 +1,12 @@
--- Rows that are counted one after the other.
+-- Rows and totals that are counted one after the other.
 use Rattle.std.proofs.Common.{◌≡◌, ℕ, suc, ◌+◌, ◌-◌, ◌%◌, ◌^◌, ◌<◌, ℤ, pos, negsuc, ◌+ℤ◌, inl, inr, ltb, List, [], ◌∷◌, ◌++◌, length, refl, sym, ap, ◌∙◌, arith, length-append}
+use Rattle.std.specs.Prelude.{map}
 use Rattle.std.proofs.Math.IntN.{+ℤ_assoc, +ℤ_idl, sub_ℕ}
 use Rattle.std.proofs.lemmas.Bool.{cases_Bool, ltb-false, ltb-true}
-use Rattle.std.proofs.lemmas.List.Concat.{flat_map-append}
+use Rattle.std.proofs.lemmas.List.Sums.{sum_by-append, sum_by-cons}
 use Rattle.act_model.specs.Answer.{Reply}
 use Rattle.act_model.specs.declared.run.Row.{Row}
-use Rattle.act_top.specs.BigTotals.{Counts, modulo_2_64, payoff_units, rows_of_answers, rows_of_runs}
+use Rattle.act_top.specs.BigTotals.{Adds, Counts, all_totals, answer_totals, modulo_2_64, payoff_units, rows_in, rows_of_answers, rows_of_runs, sums_in, totals_of}
 use Rattle.act_top.specs.declared.big_totals.Totals.{Totals}
 
 -- ---- what is left of a whole number
@@ -73,10 +74,63 @@ uncounted-none start now all left before none =
       sum = omega (arith, before.sum, units, before.small);
     }
 
--- the rows of answers, and then of others
-pub rows-both : (first others : List Reply) → rows_of_answers (first ++ others) ≡ rows_of_answers first ++ rows_of_answers others
-rows-both first others = flat_map-append (λ (answer : Reply). rows_of_runs answer.runs) first others
+same-totals : (a b : Totals) → a.rows ≡ b.rows → a.sum ≡ b.sum → a ≡ b
+same-totals a b rows sum = ap (λ (n : ℕ). record { rows = n; sum = a.sum }) rows ∙ ap (λ (n : ℕ). record { rows = b.rows; sum = n }) sum
 
 -- what was counted from nothing on
-pub counted-from-none : (now : Totals) (all : List Row) → Counts (record { rows = 0; sum = 0 }) now all → (now.rows ≡ length all) × (now.sum ≡ modulo_2_64 (payoff_units all))
-counted-from-none now all counts = (omega (arith, counts.count), omega (arith, counts.sum, modulo-small (payoff_units all)))
+pub counted-from-none : (now : Totals) (all : List Row) → Counts (record { rows = 0; sum = 0 }) now all → now ≡ totals_of all
+counted-from-none now all counts = same-totals now (totals_of all) (omega (arith, counts.count)) (omega (arith, counts.sum, modulo-small (payoff_units all)))
+
+-- ---- totals that are added
+
+-- of totals, the rest is still to be added
+pub record Unadded (start now : Totals) (all rest : List Totals) : Type 0 where
+  pub small : now.sum < 2 ^ 64
+  pub rows : now.rows + rows_in rest ≡ start.rows + rows_in all
+  pub sum : (now.sum + sums_in rest) % 2 ^ 64 ≡ (start.sum + sums_in all) % 2 ^ 64
+
+pub unadded-all : (start : Totals) (all : List Totals) → start.sum < 2 ^ 64 → Unadded start start all all
+unadded-all start all small = record { small = small; rows = refl; sum = refl }
+
+-- some more were added
+pub unadded-next : (start now next : Totals) (all left piece rest : List Totals) → Unadded start now all left → left ≡ piece ++ rest → Adds now next piece → Unadded start next all rest
+unadded-next start now next all left piece rest before is adds =
+    let rows : rows_in left ≡ rows_in piece + rows_in rest = ap rows_in is ∙ sum_by-append (λ (t : Totals). t.rows) piece rest in
+    let sums : sums_in left ≡ sums_in piece + sums_in rest = ap sums_in is ∙ sum_by-append (λ (t : Totals). t.sum) piece rest in
+    record {
+      small = omega (arith, adds.sum);
+      rows = omega (arith, before.rows, rows, adds.rows);
+      sum = omega (arith, before.sum, sums, adds.sum);
+    }
+
+-- all were
+pub unadded-none : (start now : Totals) (all left : List Totals) → Unadded start now all left → left ≡ [] → Adds start now all
+unadded-none start now all left before none =
+    let rows : rows_in left ≡ 0 = ap rows_in none in
+    let sums : sums_in left ≡ 0 = ap sums_in none in
+    record { rows = omega (arith, before.rows, rows); sum = omega (arith, before.sum, sums, before.small) }
+
+-- what was added from nothing on
+pub added-from-none : (now : Totals) (all : List Totals) → Adds (record { rows = 0; sum = 0 }) now all → now ≡ all_totals all
+added-from-none now all adds = same-totals now (all_totals all) (omega (arith, adds.rows)) (omega (arith, adds.sum))
+
+-- the totals of answers together are those of all their rows
+pub answers-together : (answers : List Reply) → all_totals (map answer_totals answers) ≡ totals_of (rows_of_answers answers)
+answers-together answers = same-totals (all_totals (map answer_totals answers)) (totals_of (rows_of_answers answers)) (rows answers) (sums answers)
+  where
+    rows : (answers : List Reply) → rows_in (map answer_totals answers) ≡ length (rows_of_answers answers)
+    rows [] = refl
+    rows (answer ∷ answers) =
+        omega (
+          arith,
+          sum_by-cons (λ (t : Totals). t.rows) (answer_totals answer) (map answer_totals answers),
+          rows answers,
+          length-append (rows_of_runs answer.runs) (rows_of_answers answers),
+        )
+
+    sums : (answers : List Reply) → sums_in (map answer_totals answers) % 2 ^ 64 ≡ modulo_2_64 (payoff_units (rows_of_answers answers))
+    sums [] = sym modulo-none
+    sums (answer ∷ answers) =
+        let both : modulo_2_64 (payoff_units (rows_of_answers (answer ∷ answers))) ≡ (modulo_2_64 (payoff_units (rows_of_runs answer.runs)) + modulo_2_64 (payoff_units (rows_of_answers answers))) % 2 ^ 64 =
+        ap modulo_2_64 (units-both (rows_of_runs answer.runs) (rows_of_answers answers)) ∙ modulo-both (payoff_units (rows_of_runs answer.runs)) (payoff_units (rows_of_answers answers)) in
+        omega (arith, sum_by-cons (λ (t : Totals). t.sum) (answer_totals answer) (map answer_totals answers), sums answers, both)

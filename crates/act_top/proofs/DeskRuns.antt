@@ -4,6 +4,7 @@ use Rattle.std.specs.List.{list_all}
 use Rattle.act_board.specs.History.{History, journal_of}
 use Rattle.act_io.specs.Put.{written_after}
 use Rattle.act_model.specs.declared.journal.Item.{Item}
+use Rattle.act_model.specs.Answer.{Reply}
 use Rattle.act_profile.specs.Answers.{answers_of}
 use Rattle.act_session.specs.Interleaving.{IsInterleaving}
 use Rattle.act_top.specs.Desk.{DeskJob, EndsWhole, IsBoardOf, IsRunOf, in_turn}
@@ -34,7 +35,7 @@ some-run job = (outcome_by job (in_turn job.scripts.lists), run-by job (in_turn 
 -- ---- what was played
 
 -- a text that was written whole
-pub runs-whole : (job : DeskJob) (played : Session) (ended : Bool) (status : Status) (before after : Option (List ℕ)) (faults now : ℕ) → IsPlayOf job played → status ≡ (if ended then Done else Unfinished)
+pub runs-whole : (job : DeskJob) (played : Session Reply) (ended : Bool) (status : Status) (before after : Option (List ℕ)) (faults now : ℕ) → IsPlayOf (λ (answer : Reply). answer) job played → status ≡ (if ended then Done else Unfinished)
     → ended ≡ list_all ends_well (answers_of job.portfolio.contracts job.scripts.names (journal_of played.board)) → after ≡ written_after before (output_of job.portfolio job.scripts.names (journal_of played.board)) → now ≡ faults
     → RunsAs job status (Some played.board) before after faults now
 runs-whole job played ended status before after faults now of is ends put count = rw is (by ended ends)

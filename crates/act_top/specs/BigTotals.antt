@@ -1,7 +1,7 @@
 -- The totals of answers: how many rows they have, and what these pay. This profile's own.
 use Rattle.std.specs.Prelude.{◌≡◌, ℕ, ◌+◌, ◌%◌, ◌^◌, ℤ, pos, ◌+ℤ◌, List, [], ◌∷◌, ◌++◌, codes, decimal, length, unsigned_abs}
 use Rattle.std.specs.Int.{int_rem_euclid}
-use Rattle.std.specs.List.{flat_map}
+use Rattle.std.specs.List.{flat_map, sum_by}
 use Rattle.act_model.specs.Answer.{Reply}
 use Rattle.act_model.specs.Run.{Stream}
 use Rattle.act_model.specs.declared.run.Row.{Row}
@@ -25,6 +25,31 @@ payoff_units (row ∷ rows) = row.payoff +ℤ payoff_units rows
 unfoldable pub modulo_2_64 : ℤ → ℕ
 modulo_2_64 z = unsigned_abs (int_rem_euclid z (pos (2 ^ 64)))
 
+-- the totals of rows
+abbrev pub totals_of : List Row → Totals
+totals_of rows = record { rows = length rows; sum = modulo_2_64 (payoff_units rows) }
+
+-- and of the rows of an answer
+abbrev pub answer_totals : Reply → Totals
+answer_totals answer = totals_of (rows_of_runs answer.runs)
+
+-- how many rows are in totals
+abbrev pub rows_in : List Totals → ℕ
+rows_in totals = sum_by (λ (t : Totals). t.rows) totals
+
+-- what their sums come to
+abbrev pub sums_in : List Totals → ℕ
+sums_in totals = sum_by (λ (t : Totals). t.sum) totals
+
+-- totals together
+abbrev pub all_totals : List Totals → Totals
+all_totals totals = record { rows = rows_in totals; sum = sums_in totals % 2 ^ 64 }
+
+-- totals were added
+pub record Adds (before after : Totals) (others : List Totals) : Type 0 where
+  pub rows : after.rows ≡ before.rows + rows_in others
+  pub sum : after.sum ≡ (before.sum + sums_in others) % 2 ^ 64
+
 -- rows were counted: as many more, and their payoffs' units more
 pub record Counts (before after : Totals) (rows : List Row) : Type 0 where
   pub count : after.rows ≡ before.rows + length rows
@@ -35,10 +60,14 @@ unfoldable pub number_line : List ℕ → ℕ → List ℕ
 number_line word number = line_of word (decimal number ∷ [])
 
 -- the number of a large run, how many contracts have a name, how many answers there are, how many rows these have, and what the rows pay
-abbrev pub totals_text : ℕ → ℕ → List Reply → List ℕ
-totals_text size contracts answers =
+abbrev pub totals_lines : ℕ → ℕ → ℕ → Totals → List ℕ
+totals_lines size contracts answers totals =
     number_line (codes "big") size
     ++ number_line (codes "contracts") contracts
-    ++ number_line (codes "asks") (length answers)
-    ++ number_line (codes "rows") (length (rows_of_answers answers))
-    ++ number_line (codes "sum") (modulo_2_64 (payoff_units (rows_of_answers answers)))
+    ++ number_line (codes "asks") answers
+    ++ number_line (codes "rows") totals.rows
+    ++ number_line (codes "sum") totals.sum
+
+-- the same of answers
+abbrev pub totals_text : ℕ → ℕ → List Reply → List ℕ
+totals_text size contracts answers = totals_lines size contracts (length answers) (totals_of (rows_of_answers answers))

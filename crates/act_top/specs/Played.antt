@@ -1,6 +1,7 @@
 -- What a run at the desk comes to, by its status. This profile's own.
-use Rattle.std.specs.Prelude.{◌≡◌, ℕ, List, Option, None, IsSomeAnd, Ok}
+use Rattle.std.specs.Prelude.{◌≡◌, ℕ, List, map, Option, None, IsSomeAnd, Ok}
 use Rattle.act_board.specs.History.{History, journal_of}
+use Rattle.act_model.specs.Answer.{Reply}
 use Rattle.act_profile.specs.Answers.{answers_of}
 use Rattle.act_io.specs.Faults.{next_count}
 use Rattle.act_top.specs.Desk.{DeskJob, EndsWhole, IsBoardOf, IsRunOf}
@@ -11,10 +12,11 @@ use Rattle.act_session.specs.declared.outcome.Session.{Session}
 use Rattle.act_top.specs.declared.top.Status.{Status}
 use Rattle.act_top.specs.declared.top.Status.TheVariants.{Done, Words, ReadFault, TooLong, PortfolioRefused, ScriptRefused, WriteFault, Unfinished, NoMemory}
 
--- what was played is of a job: its scripts were played on the board, and the answers are those to the asks of the journal, by caller
-pub record IsPlayOf (job : DeskJob) (session : Session) : Type 0 where
+-- what was played is of a job: its scripts were played on the board, and of the answers to the asks of the journal, by caller, something is
+-- kept
+pub record IsPlayOf {A : Type 0} (kept_of : Reply → A) (job : DeskJob) (session : Session A) : Type 0 where
   pub played : IsPlayed job.portfolio job.scripts.lists session.board
-  pub answers : replies_of session.answers.items ≡ answers_of job.portfolio.contracts job.portfolio.names (journal_of session.board)
+  pub answers : replies_of session.answers.items ≡ map kept_of (answers_of job.portfolio.contracts job.portfolio.names (journal_of session.board))
 
 -- of the text of a run a part was written
 abbrev pub WritesRunPart : (List ℕ → Type 0) → DeskJob → Type 0

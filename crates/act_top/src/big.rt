@@ -6,12 +6,14 @@ ghost use Rattle.act_script.specs.Reading.{Script as ScriptRead};
 ghost use Rattle.act_script.specs.Results.{result_and_then};
 ghost use Rattle.act_top.specs.Big.{EndsAsBig, IsOneScript, RunsBig, big_told, script_made};
 ghost use Rattle.act_top.specs.BigCommand.{IsBigCommand, most_size};
+ghost use Rattle.act_top.specs.BigTotals.{answer_totals};
 ghost use Rattle.act_top.specs.Halts.{Reads, RefusesOnly};
 ghost use Rattle.act_top.specs.Output.{portfolio_accepted};
 ghost use Rattle.act_top.specs.Played.{IsPlayOf};
 ghost use Rattle.act_top.specs.Scripts.{AreScriptsOf, no_scripts, with_script};
 
 use crate::big_command::BigCommand;
+use crate::big_totals::Totals;
 use crate::desk::{Ran, play, without_board};
 use crate::desk_job::DeskJob;
 use crate::halt::Halt;
@@ -110,9 +112,9 @@ fn write_played<K: Sink>(
     out: &mut K,
     size: u32,
     job: &DeskJob,
-    played: Session,
+    played: Session<Totals>,
 ) -> Ran
-    requires { IsPlayOf job.now played }
+    requires { IsPlayOf answer_totals job.now played }
     ensures { (script : ScriptRead) → IsOneScript job.now script →
         RunsBig size job.now.portfolio script result.status result.board (K.written out.old) (K.written out.new) (K.faults out.old) (K.faults out.new) }
 {

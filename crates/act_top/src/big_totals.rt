@@ -1,13 +1,14 @@
 //! The totals of answers: how many rows they have, and what these pay.
-ghost use Rattle.std.specs.Prelude.{◌≡◌, ◌+◌, ◌%◌, ◌^◌, ◌<◌, ◌∷◌, [], length, IfOk};
+ghost use Rattle.std.specs.Prelude.{◌≡◌, ◌+◌, ◌%◌, ◌^◌, ◌<◌, ◌≤◌, ◌∷◌, [], length, IfOk};
 ghost use Rattle.act_session.specs.Playing.{replies_of};
 ghost use Rattle.act_top.specs.Ready.{shared_runs};
-ghost use Rattle.act_top.specs.BigTotals.{Counts, modulo_2_64, number_line, payoff_units, rows_of_answers, rows_of_runs, totals_text};
+ghost use Rattle.act_top.specs.BigTotals.{Adds, Counts, all_totals, answer_totals, modulo_2_64, number_line, rows_of_runs, totals_lines, totals_of};
 ghost use Rattle.act_top.specs.Written.{Writes, faults_after};
 
 use crate::check::write_words;
 use crate::transcript::answer_count;
 use crate::writing::Stop;
+use act_desk::FromAnswer;
 use act_io::Sink;
 use act_model::{Answer, Row, Rows, Run};
 use act_num::{Fixed, NoMemory};
@@ -18,30 +19,44 @@ use std::sync::Arc;
 /// How many rows there are, and the sum of their payoffs' units modulo 2^64.
 #[derive(Clone, Copy)]
 pub(crate) struct Totals {
-    pub(crate) rows: u64,
+    pub(crate) rows: u128,
     pub(crate) sum: u64,
 }
 
-/// Writes the totals of the answers of a large run: its number, how many contracts have a name, how many answers there are, how many
-/// rows these have, and the sum of the rows' payoffs.
+/// Of an answer the totals of its rows are kept, and not the rows.
+impl FromAnswer for Totals {
+    ghost use Rattle.act_top.specs.BigTotals.{answer_totals};
+
+    ghost kept_of = { answer_totals };
+
+    fn from_answer(answer: Answer) -> Totals
+        ensures { result ≡ answer_totals answer }
+    {
+        Totals::of_runs(&answer.runs)
+    }
+}
+
+/// Writes the totals of the answers of a large run, given those of each answer, caller after caller: its number, how many contracts
+/// have a name, how many answers there are, how many rows these have, and the sum of the rows' payoffs.
 pub(crate) fn write_totals<K: Sink>(
     alloc: Global,
     out: &mut K,
     size: u32,
     contracts: u32,
-    answers: &[Vec<Answer>],
+    lists: &[Vec<Totals>],
 ) -> Result<(), Stop>
-    requires few { length (replies_of answers.now) < 2 ^ 64 }
-    ensures text { Writes result (totals_text size contracts (replies_of answers.now)) (K.written out.old) (K.written out.new) }
+    requires few { length (replies_of lists.now) < 2 ^ 64 }
+    ensures text { Writes result (totals_lines size contracts (length (replies_of lists.now)) (all_totals (replies_of lists.now)))
+        (K.written out.old) (K.written out.new) }
     ensures faults { K.faults out.new ≡ faults_after result (K.faults out.old) }
 {
-    let totals = Totals::of(answers)?;
+    let totals = Totals::of_lists(lists)?;
     let mut line = Vec::new(alloc);
-    write_number(out, &mut line, b"big", u64::from(size))?;
-    write_number(out, &mut line, b"contracts", u64::from(contracts))?;
-    write_number(out, &mut line, b"asks", answer_count(answers) as u64)?;
+    write_number(out, &mut line, b"big", u128::from(size))?;
+    write_number(out, &mut line, b"contracts", u128::from(contracts))?;
+    write_number(out, &mut line, b"asks", answer_count(lists) as u128)?;
     write_number(out, &mut line, b"rows", totals.rows)?;
-    write_number(out, &mut line, b"sum", totals.sum)
+    write_number(out, &mut line, b"sum", u128::from(totals.sum))
 }
 
 /// Writes the line of a word and a number. `line` is room for it.
@@ -50,7 +65,7 @@ fn write_number<K: Sink>(
     out: &mut K,
     line: &mut Vec<u8>,
     word: &[u8],
-    number: u64,
+    number: u128,
 ) -> Result<(), Stop>
     ensures text { Writes result (number_line word.now number) (K.written out.old) (K.written out.new) }
     ensures faults { K.faults out.new ≡ faults_after result (K.faults out.old) }
@@ -61,58 +76,72 @@ fn write_number<K: Sink>(
 }
 
 impl Totals {
-    /// The totals of the rows of all answers. Where there are too many to be counted memory has run out, here and below.
-    fn of(lists: &[Vec<Answer>]) -> Result<Totals, NoMemory>
-        ensures rows { IfOk result (λ totals. totals.rows ≡ length (rows_of_answers (replies_of lists.now))) }
-        ensures sum { IfOk result (λ totals. totals.sum ≡ modulo_2_64 (payoff_units (rows_of_answers (replies_of lists.now)))) }
+    /// Those of no rows.
+    const NONE: Totals = Totals { rows: 0, sum: 0 };
+
+    /// Those of totals together. Where there are too many rows to be counted memory has run out, as in the next two calls.
+    fn of_lists(lists: &[Vec<Totals>]) -> Result<Totals, NoMemory>
+        ensures { IfOk result (λ totals. totals ≡ all_totals (replies_of lists.now)) }
     {
-        let mut totals = Totals { rows: 0, sum: 0 };
-        for answers in lists {
-            totals.add_answers(answers)?;
+        let mut totals = Totals::NONE;
+        for others in lists {
+            totals.add_all(others)?;
         }
         Ok(totals)
     }
 
-    /// Adds the rows of answers.
-    fn add_answers(&mut self, answers: &[Answer]) -> Result<(), NoMemory>
-        ensures { IfOk result (λ _. Counts self.old self.new (rows_of_answers answers.now)) }
+    /// Adds totals.
+    fn add_all(&mut self, others: &[Totals]) -> Result<(), NoMemory>
+        ensures { IfOk result (λ _. Adds self.old self.new others.now) }
     {
-        for answer in answers {
-            self.add_runs(&answer.runs)?;
+        for other in others {
+            self.add(other)?;
         }
         Ok(())
     }
 
-    /// Adds the rows of runs.
-    fn add_runs(&mut self, runs: &[(u32, Arc<Run, Global>)]) -> Result<(), NoMemory>
-        ensures { IfOk result (λ _. Counts self.old self.new (rows_of_runs (shared_runs runs.now))) }
+    /// Adds another's.
+    fn add(&mut self, other: &Totals) -> Result<(), NoMemory>
+        ensures { IfOk result (λ _. Adds self.old self.new (other.now ∷ [])) }
     {
-        for run in runs {
-            self.add_rows(&run.1.rows)?;
-        }
-        Ok(())
-    }
-
-    /// Adds rows.
-    fn add_rows(&mut self, rows: &Rows) -> Result<(), NoMemory>
-        ensures { IfOk result (λ _. Counts self.old self.new rows.now) }
-    {
-        for place in 0..rows.count() {
-            self.add_row(&rows.row(place))?;
-        }
-        Ok(())
-    }
-
-    /// Adds a row.
-    fn add_row(&mut self, row: &Row) -> Result<(), NoMemory>
-        ensures { IfOk result (λ _. Counts self.old self.new (row.now ∷ [])) }
-    {
-        let Some(rows) = self.rows.checked_add(1) else {
+        let Some(rows) = self.rows.checked_add(other.rows) else {
             return Err(NoMemory);
         };
         self.rows = rows;
-        self.sum = self.sum.wrapping_add(modulo_2_64(row.payoff));
+        self.sum = self.sum.wrapping_add(other.sum);
         Ok(())
+    }
+
+    /// Those of the rows of runs.
+    fn of_runs(runs: &[(u32, Arc<Run, Global>)]) -> Totals
+        ensures { result ≡ totals_of (rows_of_runs (shared_runs runs.now)) }
+    {
+        let mut totals = Totals::NONE;
+        for run in runs {
+            totals.add_rows(&run.1.rows);
+        }
+        totals
+    }
+
+    /// Adds rows.
+    fn add_rows(&mut self, rows: &Rows)
+        requires { self.old.rows + 2 ^ 64 ≤ 2 ^ 128 }
+        ensures counted { Counts self.old self.new rows.now }
+        ensures few { self.new.rows ≤ self.old.rows + 2 ^ 64 }
+    {
+        for place in 0..rows.count() {
+            self.add_row(&rows.row(place));
+        }
+    }
+
+    /// Adds a row.
+    #[inline(always)]
+    fn add_row(&mut self, row: &Row)
+        requires { self.old.rows + 1 < 2 ^ 128 }
+        ensures { Counts self.old self.new (row.now ∷ []) }
+    {
+        self.rows += 1;
+        self.sum = self.sum.wrapping_add(modulo_2_64(row.payoff));
     }
 }
 

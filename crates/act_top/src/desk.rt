@@ -20,7 +20,9 @@ use crate::desk_command::DeskCommand;
 use crate::desk_job::{DeskJob, desk_job};
 use crate::top::{Status, answers_status, refuse_words, status_of, write_halt};
 use act_board::Board;
+use act_desk::FromAnswer;
 use act_io::{Files, Gate, Sink};
+use act_model::Answer;
 use act_num::NoMemory;
 use act_session::{Session, session};
 use std::alloc::Global;
@@ -163,22 +165,22 @@ fn run<R: Threads + Wait + Sync, K: Sink, G: Gate>(
     }
 }
 
-/// What callers and workers play of a job.
-pub(crate) fn play<R: Threads + Wait + Sync, G: Gate>(
+/// What callers and workers play of a job, with what is kept of the answers.
+pub(crate) fn play<R: Threads + Wait + Sync, G: Gate, A: FromAnswer>(
     rt: &R,
     alloc: Global,
     job: &DeskJob,
     gate: &G,
-) -> Result<Session, NoMemory>
-    ensures { IfOk result (IsPlayOf job.now) }
+) -> Result<Session<A>, NoMemory>
+    ensures { IfOk result (IsPlayOf A.kept_of job.now) }
 {
     let portfolio = job.shared_portfolio()?;
     session(rt, alloc, portfolio, job.lists(), job.workers(), gate)
 }
 
 /// Writes what was played of a job.
-fn write_played<K: Sink>(alloc: Global, out: &mut K, job: &DeskJob, played: Session) -> Ran
-    requires { IsPlayOf job.now played }
+fn write_played<K: Sink>(alloc: Global, out: &mut K, job: &DeskJob, played: Session<Answer>) -> Ran
+    requires { IsPlayOf (λ answer. answer) job.now played }
     ensures { RunsAs job.now result.status result.board (K.written out.old) (K.written out.new) (K.faults out.old) (K.faults out.new) }
 {
     let Session { mut board, answers } = played;

@@ -1,5 +1,5 @@
 //! What a command of the desk is to run.
-ghost use Rattle.std.specs.Prelude.{◌≡◌, ◌≤◌, count_by, length, not, IfErr, IfOk, IfSome, ⊤};
+ghost use Rattle.std.specs.Prelude.{◌≡◌, ◌≤◌, count_by, length, map, not, IfErr, IfOk, IfSome, ⊤};
 ghost use Rattle.std.specs.Arc.{arc_value};
 ghost use Rattle.std.specs.List.{All, list_all};
 ghost use Rattle.act_board.specs.History.{journal_of};
@@ -9,7 +9,7 @@ ghost use Rattle.act_model.specs.declared.journal.Line.{Line as StepLine};
 ghost use Rattle.act_script.specs.Asks.{line_lists};
 ghost use Rattle.act_profile.specs.Answers.{answers_of};
 ghost use Rattle.act_session.specs.Interleaving.{IsInterleaving};
-ghost use Rattle.act_top.specs.BigTotals.{totals_text};
+ghost use Rattle.act_top.specs.BigTotals.{answer_totals, totals_text};
 ghost use Rattle.act_top.specs.Desk.{IsReadyDesk, job_told, weighed_job};
 ghost use Rattle.act_top.specs.DeskAsked.{AsksDesk, AsksNoFurther};
 ghost use Rattle.act_top.specs.DeskCommand.{most_scripts, most_workers};
@@ -19,7 +19,7 @@ ghost use Rattle.act_session.specs.Playing.{replies_of};
 ghost use Rattle.act_top.specs.Scripts.{AreScriptsOf};
 ghost use Rattle.act_top.specs.Written.{Writes, faults_after};
 
-use crate::big_totals::write_totals;
+use crate::big_totals::{Totals, write_totals};
 use crate::desk_command::DeskCommand;
 use crate::halt::Halt;
 use crate::reading::read_portfolio;
@@ -175,20 +175,22 @@ impl DeskJob {
         write_board(alloc, out, self.names(), contracts, board, answers)
     }
 
-    /// Writes the totals of the answers to a journal's asks, caller after caller, under the number of a large run.
+    /// Writes the totals of the answers to a journal's asks, caller after caller, under the number of a large run. Those of each answer
+    /// are handed in.
     pub(crate) fn write_totals<K: Sink>(
         &self,
         alloc: Global,
         out: &mut K,
         size: u32,
         items: &[Item],
-        answers: &[Vec<Answer>],
+        totals: &[Vec<Totals>],
     ) -> Result<(), Stop>
-        requires { replies_of answers.now ≡ answers_of self.now.portfolio.contracts self.now.portfolio.names items.now }
+        requires { replies_of totals.now
+            ≡ map answer_totals (answers_of self.now.portfolio.contracts self.now.portfolio.names items.now) }
         ensures text { Writes result (totals_text size (length self.now.portfolio.names.contracts)
             (answers_of self.now.portfolio.contracts self.now.scripts.names items.now)) (K.written out.old) (K.written out.new) }
         ensures faults { K.faults out.new ≡ faults_after result (K.faults out.old) }
     {
-        write_totals(alloc, out, size, self.named(), answers)
+        write_totals(alloc, out, size, self.named(), totals)
     }
 }

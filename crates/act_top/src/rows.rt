@@ -1,7 +1,9 @@
 //! The blocks of contracts. The lines of rows that were written for an answer are kept for the next ones, whose rows are mostly the same.
-ghost use Rattle.std.specs.Prelude.{◌≡◌, ◌++◌, IfOk, IfSome, OnOk, slice_get};
+ghost use Rattle.std.specs.Prelude.{◌≡◌, ◌++◌, ◌<◌, IfOk, IfSome, OnOk, length, slice_get};
 ghost use Rattle.std.specs.Arc.{arc_value};
 ghost use Rattle.std.specs.List.{flat_map};
+ghost use Rattle.act_print.specs.Printed.{printed_block};
+ghost use Rattle.act_print.specs.Text.{block_text};
 ghost use Rattle.act_text.specs.Kept.{AreWrittenWith};
 ghost use Rattle.act_text.specs.Lines.{close_text, row_text};
 ghost use Rattle.act_swap.specs.Children.{AreInDayOrder};
@@ -13,6 +15,7 @@ use act_date::Day;
 use act_io::Sink;
 use act_model::{Close, Names, Rows, Run};
 use act_num::NoMemory;
+use act_print::block_head;
 use act_run::kept_rows;
 use act_text::{RowLines, RowPrinter, close_line};
 use std::alloc::Global;
@@ -35,10 +38,10 @@ pub(crate) fn no_lines<'a>(
     Ok(kept)
 }
 
-/// Writes the block of a contract with its run, whose head is in `line`, and keeps its rows' lines where there is a place for the
-/// contract. Where `cuts` tells of a contract, the kept lines are known to be those of its rows before the cut, here and in what
-/// calls it, and where that is None of all.
-pub(crate) fn write_block_lines<K: Sink>(
+/// Writes the block of a contract with its run, and keeps its lines where there is a place for the contract. Where `cuts` tells of a
+/// contract, the kept lines are known to be those of its rows before the cut, here and in what calls it, and, where that is None,
+/// those of all its rows. `line` is room for a line, here and below.
+pub(crate) fn write_run<K: Sink>(
     out: &mut K,
     line: &mut Vec<u8>,
     names: &Names,
@@ -47,14 +50,16 @@ pub(crate) fn write_block_lines<K: Sink>(
     contract: u32,
     run: &Arc<Run, Global>,
 ) -> Result<(), Stop>
+    requires contract { contract < length names.now.contracts }
     requires kept { AreWrittenWith names.now kept.old }
     requires known { IsKnown cuts.now kept.old contract (arc_value run.now) }
-    ensures text { Writes result (line.old.items ++ flat_map (row_text names.now) (arc_value run.now).rows ++ close_text names.now (arc_value run.now).close)
-        (K.written out.old) (K.written out.new) }
+    ensures text { Writes result (block_text names.now (printed_block (contract, arc_value run.now))) (K.written out.old) (K.written out.new) }
     ensures faults { K.faults out.new ≡ faults_after result (K.faults out.old) }
     ensures kept { AreWrittenWith names.now kept.new }
     ensures renewed { OnOk result (IsRenewed contract (arc_value run.now) kept.old kept.new) }
 {
+    line.clear();
+    block_head(names, contract, line)?;
     let place = contract as usize;
     if place < kept.len() {
         write_kept_block(out, line, &mut kept[place], cut_at(cuts, place), run)
@@ -126,7 +131,7 @@ fn write_new_rows<K: Sink>(out: &mut K, names: &Names, rows: &Rows) -> Result<()
     Ok(())
 }
 
-/// Writes the line of how rows close. `line` is room for it.
+/// Writes the line of how rows close.
 fn write_close<K: Sink>(
     out: &mut K,
     line: &mut Vec<u8>,

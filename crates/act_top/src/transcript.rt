@@ -1,5 +1,5 @@
 //! The text of a journal and its answers, written part by part.
-ghost use Rattle.std.specs.Prelude.{◌≡◌, ◌≤◌, ◌<◌, ◌^◌, ℕ, true, ◌++◌, length, map, Err, IfOk, OnOk};
+ghost use Rattle.std.specs.Prelude.{◌≡◌, ◌≤◌, ◌<◌, ◌^◌, ℕ, true, ◌++◌, length, map, Err, IfOk};
 ghost use Rattle.std.specs.Arc.{arc_value};
 ghost use Rattle.std.specs.List.{All, flat_map, list_all};
 ghost use Rattle.act_board.specs.History.{journal_of};
@@ -7,9 +7,8 @@ ghost use Rattle.act_model.specs.Answer.{Reply};
 ghost use Rattle.act_model.specs.Journal.{is_known};
 ghost use Rattle.act_model.specs.Run.{Stream};
 ghost use Rattle.act_print.specs.Printed.{printed_answer, printed_block};
-ghost use Rattle.act_print.specs.Text.{answer_head_text, answer_text, answers_head_text, block_head_text, block_text, item_text, journal_head_text, text_of};
+ghost use Rattle.act_print.specs.Text.{answer_head_text, answer_text, answers_head_text, block_text, item_text, journal_head_text, text_of};
 ghost use Rattle.act_text.specs.Kept.{AreWrittenWith};
-ghost use Rattle.act_text.specs.Lines.{close_text};
 ghost use Rattle.act_top.specs.Known.{AreKnown, AreRenewed, IsKnown, IsRenewed, IsReplyOn};
 ghost use Rattle.act_top.specs.Output.{all_end, ends_well, is_end, items_of, work_line};
 ghost use Rattle.act_top.specs.Ready.{answers_text, opening_text, runs_text, shared_runs};
@@ -20,13 +19,13 @@ use crate::by_cuts::write_lists_by_cuts;
 use crate::check::write_words;
 use crate::journal::{CALLER, ask_count};
 use crate::reading::Script;
-use crate::rows::{no_lines, write_block_lines};
+use crate::rows::{no_lines, write_run};
 use crate::writing::{Stop, write_text};
 use act_board::Board;
 use act_date::Day;
 use act_io::Sink;
 use act_model::{Answer, Close, Item, Line, Names, Run};
-use act_print::{answer_head, answers_head, block_head, item_line, journal_head};
+use act_print::{answer_head, answers_head, item_line, journal_head};
 use act_text::RowLines;
 use itoa::Buffer;
 use std::alloc::Global;
@@ -128,7 +127,7 @@ pub fn write_work<K: Sink>(out: &mut K, line: &mut Vec<u8>, work: u64) -> Result
 }
 
 /// How many answers there are.
-pub(crate) fn answer_count(lists: &[Vec<Answer>]) -> usize
+pub(crate) fn answer_count<A>(lists: &[Vec<A>]) -> usize
     requires { length (replies_of lists.now) < 2 ^ 64 }
     ensures { result ≡ length (replies_of lists.now) }
 {
@@ -356,29 +355,6 @@ fn write_answer_head<K: Sink>(out: &mut K, line: &mut Vec<u8>, answer: &Answer) 
     line.clear();
     answer_head(answer, line)?;
     write_text(out, line)
-}
-
-/// Writes the block of a contract with its run.
-fn write_run<K: Sink>(
-    out: &mut K,
-    line: &mut Vec<u8>,
-    names: &Names,
-    kept: &mut [RowLines<'_>],
-    cuts: &[Option<Day>],
-    contract: u32,
-    run: &Arc<Run, Global>,
-) -> Result<(), Stop>
-    requires contract { contract < length names.now.contracts }
-    requires kept { AreWrittenWith names.now kept.old }
-    requires known { IsKnown cuts.now kept.old contract (arc_value run.now) }
-    ensures text { Writes result (block_text names.now (printed_block (contract, arc_value run.now))) (K.written out.old) (K.written out.new) }
-    ensures faults { K.faults out.new ≡ faults_after result (K.faults out.old) }
-    ensures kept { AreWrittenWith names.now kept.new }
-    ensures renewed { OnOk result (IsRenewed contract (arc_value run.now) kept.old kept.new) }
-{
-    line.clear();
-    block_head(names, contract, line)?;
-    write_block_lines(out, line, names, kept, cuts, contract, run)
 }
 
 /// Whether a run wasn't stopped.

@@ -17,13 +17,17 @@ contracts-preserved c =
     let book = c.args.book.now in
     let from = min c.args.one c.args.other in
     let to = max c.args.one c.args.other in
-    let reads = c.reads.result.now in
+    let reads = c.reads-reads.result.now in
     let found = c.in_ok-cut.cut in
+    let least : min c.min.result c.max-to.result ≡ from = omega (arith, c.min.ensures, c.max-to.ensures) in
+    let most : max c.min.result c.max-to.result ≡ to = omega (arith, c.min.ensures, c.max-to.ensures) in
     let items : c.push.new.self.items ≡ c.contracts.cuts.items ++ found ∷ [] = c.in_ok-push.ensures.items in
     let cut : found ≡ cut_of p c.contracts.contract book from to =
     c.in_ok-cut.ensures.cut
+    ∙ ap (λ (k : ℕ). cut_by reads.codes reads.contracts c.contracts.book k (max c.min.result c.max-to.result)) least
+    ∙ ap (λ (k : ℕ). cut_by reads.codes reads.contracts c.contracts.book from k) most
     ∙ (ap (λ (entries : List Obs). cut_by reads.codes reads.contracts entries from to) c.contracts.invariant.same
-    ∙ ap (λ (r : Readings). cut_by r.codes r.contracts book from to) c.reads.ensures.reads) in
+    ∙ ap (λ (r : Readings). cut_by r.codes r.contracts book from to) c.reads-reads.ensures.reads) in
     record {
       count = omega (arith, ap length items, length_push c.contracts.cuts.items found, c.contracts.invariant.count);
       each = λ d one at. elim (get-push_cases c.contracts.cuts.items found one d (ap (λ (xs : List (Option ℤ)). slice_get xs d) (sym items) ∙ at)) [

@@ -4,10 +4,10 @@ use Rattle.act_session.proofs.seats.rise.Given as goal
 
 -- the passes of the actors that are left, and behind them those that were taken, the last one first
 abbrev pub invariant-loop-actor : goal.invariant-loop-actor
-invariant-loop-actor l = record {
+invariant-loop-actor g l = record {
   passes : passes_of l.actors.items ++ reverse l.passes.items ≡ passes_of l.fn.actors.items;
   room : length l.actors.items + length l.passes.items ≤ vec_capacity l.passes;
 }
 
 abbrev pub decreases-loop-actor : goal.decreases-loop-actor
-decreases-loop-actor l = length l.actors.items
+decreases-loop-actor g l = length l.actors.items

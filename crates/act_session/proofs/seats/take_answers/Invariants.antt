@@ -4,7 +4,7 @@ use Rattle.act_session.proofs.seats.take_answers.Given as goal
 
 -- the answers of the actors before this one are taken, and those of the others are still there
 abbrev pub invariant-loop-place : goal.invariant-loop-place
-invariant-loop-place l = record {
+invariant-loop-place g l = record {
   passes : passes_of l.actors ≡ passes_of l.fn.actors;
   kept : drop l.place (answers_at l.actors) ≡ drop l.place (answers_at l.fn.actors);
   all : map Some l.all.items ≡ take l.place (answers_at l.fn.actors);

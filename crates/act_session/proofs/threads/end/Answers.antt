@@ -14,14 +14,14 @@ use Rattle.act_session.proofs.Closed.{all-free, closed-answered, closed-own, clo
 use Rattle.act_session.proofs.threads.end.Goals as goal
 
 pub close-board-requires-clause-free : goal.close-board-requires-clause-free
-close-board-requires-clause-free c =
+close-board-requires-clause-free g c =
     let a = c.take_answers-taken.auto.actors in let b = c.as_mut_slice.ensures.len in
     let same : c.rise.new.passes.items ≡ passes_of c.args.actors.items =
     c.rise.ensures.passes ∙ (ap passes_of (take_at c.take_answers-taken.new.actors _ c.args.actors.len (omega (arith, a, b))) ∙ (c.take_answers-taken.ensures.passes ∙ ap passes_of c.as_mut_slice.ensures.value)) in
     subst (All (IsFree c.args.desk.id)) (sym same) (all-free c.args.desk (lines_of c.args.scripts.now) c.args.actors.items c.requires.played)
 
 pub returns-in-Some-clause-board : goal.returns-in-Some-clause-board
-returns-in-Some-clause-board c =
+returns-in-Some-clause-board g c =
     let a = c.take_answers-taken.auto.actors in let b = c.as_mut_slice.ensures.len in
     let same : c.rise.new.passes.items ≡ passes_of c.args.actors.items =
     c.rise.ensures.passes ∙ (ap passes_of (take_at c.take_answers-taken.new.actors _ c.args.actors.len (omega (arith, a, b))) ∙ (c.take_answers-taken.ensures.passes ∙ ap passes_of c.as_mut_slice.ensures.value)) in
@@ -32,10 +32,10 @@ returns-in-Some-clause-board c =
     (subst (All (λ (p : Standing Entry). entries_of author_of p.number (list_of c.close-board.result) ≡ own_entries author_of p)) same c.close-board.ensures.own)
     c.in-Some.answers.items (omega (arith, count, enough))
     (c.in-Some.ensures.answers
-    ∙ (ap (λ (actors : List Actor). take (length c.args.scripts.now) (answers_at actors)) c.as_mut_slice.ensures.value ∙ ap (λ (n : ℕ). take n (answers_at c.args.actors.items)) (sym count)))
+    ∙ (ap (λ (actors : List (Actor g.row.A.Denot)). take (length c.args.scripts.now) (answers_at actors)) c.as_mut_slice.ensures.value ∙ ap (λ (n : ℕ). take n (answers_at c.args.actors.items)) (sym count)))
 
 pub returns-in-Some-clause-own : goal.returns-in-Some-clause-own
-returns-in-Some-clause-own c =
+returns-in-Some-clause-own g c =
     let a = c.take_answers-taken.auto.actors in let b = c.as_mut_slice.ensures.len in
     let same : c.rise.new.passes.items ≡ passes_of c.args.actors.items =
     c.rise.ensures.passes ∙ (ap passes_of (take_at c.take_answers-taken.new.actors _ c.args.actors.len (omega (arith, a, b))) ∙ (c.take_answers-taken.ensures.passes ∙ ap passes_of c.as_mut_slice.ensures.value)) in
@@ -46,10 +46,10 @@ returns-in-Some-clause-own c =
     (subst (All (λ (p : Standing Entry). entries_of author_of p.number (list_of c.close-board.result) ≡ own_entries author_of p)) same c.close-board.ensures.own)
     c.in-Some.answers.items (omega (arith, count, enough))
     (c.in-Some.ensures.answers
-    ∙ (ap (λ (actors : List Actor). take (length c.args.scripts.now) (answers_at actors)) c.as_mut_slice.ensures.value ∙ ap (λ (n : ℕ). take n (answers_at c.args.actors.items)) (sym count)))
+    ∙ (ap (λ (actors : List (Actor g.row.A.Denot)). take (length c.args.scripts.now) (answers_at actors)) c.as_mut_slice.ensures.value ∙ ap (λ (n : ℕ). take n (answers_at c.args.actors.items)) (sym count)))
 
 pub returns-in-Some-clause-answers : goal.returns-in-Some-clause-answers
-returns-in-Some-clause-answers c =
+returns-in-Some-clause-answers g c =
     let a = c.take_answers-taken.auto.actors in let b = c.as_mut_slice.ensures.len in
     let same : c.rise.new.passes.items ≡ passes_of c.args.actors.items =
     c.rise.ensures.passes ∙ (ap passes_of (take_at c.take_answers-taken.new.actors _ c.args.actors.len (omega (arith, a, b))) ∙ (c.take_answers-taken.ensures.passes ∙ ap passes_of c.as_mut_slice.ensures.value)) in
@@ -60,4 +60,4 @@ returns-in-Some-clause-answers c =
     (subst (All (λ (p : Standing Entry). entries_of author_of p.number (list_of c.close-board.result) ≡ own_entries author_of p)) same c.close-board.ensures.own)
     c.in-Some.answers.items (omega (arith, count, enough))
     (c.in-Some.ensures.answers
-    ∙ (ap (λ (actors : List Actor). take (length c.args.scripts.now) (answers_at actors)) c.as_mut_slice.ensures.value ∙ ap (λ (n : ℕ). take n (answers_at c.args.actors.items)) (sym count)))
+    ∙ (ap (λ (actors : List (Actor g.row.A.Denot)). take (length c.args.scripts.now) (answers_at actors)) c.as_mut_slice.ensures.value ∙ ap (λ (n : ℕ). take n (answers_at c.args.actors.items)) (sym count)))

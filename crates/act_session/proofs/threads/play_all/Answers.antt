@@ -12,14 +12,14 @@ pub for_each_mut-requires-clause-accepts : goal.for_each_mut-requires-clause-acc
 for_each_mut-requires-clause-accepts g c κs within = λ i p below at.
     let inside : i < length c.args.actors.now = omega (arith, below, c.reverse.ensures.len) in
     let behind : length c.args.actors.now - 1 - i < length c.args.actors.now = omega (arith, inside) in
-    let count = length-map c.args.actors.now (λ (a : Actor). a.pass) in (
+    let count = length-map c.args.actors.now (λ (a : Actor g.row.A.Denot). a.pass) in (
       inside,
       (
         c.requires.scripts,
         (
           first-at c.args.actors.now (length c.args.actors.now - 1 - i) p.now _ behind (turned-read c.args.actors.now c.reverse.new.self i p.now c.reverse.ensures.after inside at)
               (c.requires.first (length c.args.actors.now - 1 - i) (omega (arith, behind, count))),
-          (search rules, search rules),
+          (search rules, search rules, search rules),
         ),
       ),
     )

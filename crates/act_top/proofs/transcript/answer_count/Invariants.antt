@@ -4,4 +4,4 @@ use Rattle.act_top.proofs.transcript.answer_count.Given as goal
 
 -- the answers of the lists before this one
 abbrev pub invariant-loop-answers : goal.invariant-loop-answers
-invariant-loop-answers l = l.count + length (replies_of (drop l.answers-index l.lists)) ≡ length (replies_of l.lists)
+invariant-loop-answers g l = l.count + length (replies_of (drop l.answers-index l.lists)) ≡ length (replies_of l.lists)

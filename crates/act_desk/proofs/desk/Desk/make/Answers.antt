@@ -3,7 +3,6 @@ use Rattle.act_desk.proofs.Watching.{if-err}
 use Rattle.act_desk.proofs.Way.{all-collected, making-some}
 use Rattle.std.proofs.Common.{◌<◌, List, length, ap, sym, subst, ◌∙◌, arith}
 use Rattle.std.proofs.lemmas.List.{length-append, take_all}
-use Rattle.act_model.specs.Answer.{Reply}
 use Rattle.act_model.specs.declared.journal.Line.{Line}
 use Rattle.act_desk.specs.Making.{IsMaking}
 use Rattle.act_desk.proofs.desk.Desk.make.Goals as goal
@@ -29,7 +28,7 @@ rest-preserved g c =
 pub returns-in_err-collect_next-clause-some : goal.returns-in_err-collect_next-clause-some
 returns-in_err-collect_next-clause-some g c =
     let watched = making-watched c.args.pass.now c.args.caller c.args.lines.now c.rest.answers.items c.rest.pass c.collect_next.new.pass c.rest.invariant.making c.in_err-collect_next.ensures.watched in
-    let kept = subst (λ (replies : List Reply). IsMaking c.args.pass.now c.args.caller c.args.lines.now replies c.collect_next.new.pass) (sym {A = List Reply} c.in_err-collect_next.ensures.kept) watched in
+    let kept = subst (λ (replies : List g.row.A.Denot). IsMaking g.A.FromAnswer.kept_of c.args.pass.now c.args.caller c.args.lines.now replies c.collect_next.new.pass) (sym {A = List g.row.A.Denot} c.in_err-collect_next.ensures.kept) watched in
     let all = take_all (length c.args.lines.now) c.args.lines.now (omega arith) in
     if-err c.from_residual-in_err-collect_next.result
-    (length c.args.lines.now, subst (λ (lines : List Line). IsMaking c.args.pass.now c.args.caller lines c.collect_next.new.answers.items c.collect_next.new.pass) (sym all) kept)
+    (length c.args.lines.now, subst (λ (lines : List Line). IsMaking g.A.FromAnswer.kept_of c.args.pass.now c.args.caller lines c.collect_next.new.answers.items c.collect_next.new.pass) (sym all) kept)

@@ -5,7 +5,7 @@ use Rattle.act_desk.proofs.desk.Desk.make.Given as goal
 
 abbrev pub invariant-rest : goal.invariant-rest
 invariant-rest g l = record {
-  making : IsMaking l.fn.pass l.caller l.lines l.answers.items l.pass;
+  making : IsMaking g.A.FromAnswer.kept_of l.fn.pass l.caller l.lines l.answers.items l.pass;
   asked : l.asked ≡ count_by asks l.lines;
   within : length l.answers.items ≤ l.asked;
 }

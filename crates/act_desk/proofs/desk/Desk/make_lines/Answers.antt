@@ -4,7 +4,6 @@ use Rattle.act_desk.proofs.Way.{all-collected, at-start, making-not-full, making
 use Rattle.std.proofs.Common.{◌≡◌, ◌∙◌, ◌+◌, List, length, take, get_or, true, ap, sym, subst, arith}
 use Rattle.act_portfolio.specs.Reading.{Accepted}
 use Rattle.std.proofs.lemmas.List.Elements.{All-get_or}
-use Rattle.act_model.specs.Answer.{Reply}
 use Rattle.act_model.specs.Journal.{is_known}
 use Rattle.act_model.specs.declared.journal.Line.{Line}
 use Rattle.act_model.specs.declared.journal.Step.{Step}
@@ -33,7 +32,7 @@ pub returns-in_err-make_room-in-Ask-clause-some : goal.returns-in_err-make_room-
 returns-in_err-make_room-in-Ask-clause-some g c =
     let watched = making-watched c.args.pass.now c.args.caller _ _ c.loop-line.pass c.make_room.new.pass c.loop-line.invariant.making c.in_err-make_room-in-Ask.ensures.watched in
     if-err c.from_residual-in_err-make_room-in-Ask.result
-    (c.loop-line.line-index, subst (λ (replies : List Reply). IsMaking c.args.pass.now c.args.caller (take c.loop-line.line-index c.args.lines.now) replies c.make_room.new.pass) (sym {A = List Reply} c.in_err-make_room-in-Ask.ensures.kept) watched)
+    (c.loop-line.line-index, subst (λ (replies : List g.row.A.Denot). IsMaking g.A.FromAnswer.kept_of c.args.pass.now c.args.caller (take c.loop-line.line-index c.args.lines.now) replies c.make_room.new.pass) (sym {A = List g.row.A.Denot} c.in_err-make_room-in-Ask.ensures.kept) watched)
 
 pub make_ask-requires-clause-present : goal.make_ask-requires-clause-present
 make_ask-requires-clause-present g c =
@@ -93,9 +92,9 @@ loop-line-preserved g c = elim c.match-line.branch [
       let kept = ap (λ (v : _). length v.items) w.answers-is in
       record {
         making =
-            subst (λ (pass : Standing Entry). IsMaking c.args.pass.now c.args.caller (take (n + 1) lines) c.match-line.answers.items pass) (sym w.pass-is)
-            (subst (λ (v : _). IsMaking c.args.pass.now c.args.caller (take (n + 1) lines) v.items w.make_append.new.pass) (sym w.answers-is)
-            (subst (λ (done : List Line). IsMaking c.args.pass.now c.args.caller done c.loop-line.answers.items w.make_append.new.pass) (sym next) made));
+            subst (λ (pass : Standing Entry). IsMaking g.A.FromAnswer.kept_of c.args.pass.now c.args.caller (take (n + 1) lines) c.match-line.answers.items pass) (sym w.pass-is)
+            (subst (λ (v : _). IsMaking g.A.FromAnswer.kept_of c.args.pass.now c.args.caller (take (n + 1) lines) v.items w.make_append.new.pass) (sym w.answers-is)
+            (subst (λ (done : List Line). IsMaking g.A.FromAnswer.kept_of c.args.pass.now c.args.caller done c.loop-line.answers.items w.make_append.new.pass) (sym next) made));
         asked = w.asked-is ∙ (c.loop-line.invariant.asked ∙ sym asked);
         room = omega (arith, room, same, kept);
       }
@@ -117,9 +116,9 @@ loop-line-preserved g c = elim c.match-line.branch [
       let kept = ap (λ (v : _). length v.items) w.answers-is in
       record {
         making =
-            subst (λ (pass : Standing Entry). IsMaking c.args.pass.now c.args.caller (take (n + 1) lines) c.match-line.answers.items pass) (sym w.pass-is)
-            (subst (λ (v : _). IsMaking c.args.pass.now c.args.caller (take (n + 1) lines) v.items w.make_ask.new.pass) (sym w.answers-is)
-            (subst (λ (some : List Line). IsMaking c.args.pass.now c.args.caller some w.make_room.new.answers.items w.make_ask.new.pass) (sym next) done));
+            subst (λ (pass : Standing Entry). IsMaking g.A.FromAnswer.kept_of c.args.pass.now c.args.caller (take (n + 1) lines) c.match-line.answers.items pass) (sym w.pass-is)
+            (subst (λ (v : _). IsMaking g.A.FromAnswer.kept_of c.args.pass.now c.args.caller (take (n + 1) lines) v.items w.make_ask.new.pass) (sym w.answers-is)
+            (subst (λ (some : List Line). IsMaking g.A.FromAnswer.kept_of c.args.pass.now c.args.caller some w.make_room.new.answers.items w.make_ask.new.pass) (sym next) done));
         asked = omega (arith, same, had, asked);
         room = omega (arith, room, same, kept);
       }

@@ -5,7 +5,7 @@ use Rattle.act_desk.proofs.desk.Desk.make_lines.Given as goal
 
 abbrev pub invariant-loop-line : goal.invariant-loop-line
 invariant-loop-line g l = record {
-  making : IsMaking l.fn.pass l.caller (take l.line-index l.lines) l.answers.items l.pass;
+  making : IsMaking g.A.FromAnswer.kept_of l.fn.pass l.caller (take l.line-index l.lines) l.answers.items l.pass;
   asked : l.asked ≡ count_by asks (take l.line-index l.lines);
   room : l.asked ≤ length l.answers.items + 256;
 }

@@ -22,7 +22,7 @@ use Rattle.act_board.proofs.Quotas.{few-open}
 use Rattle.act_board.proofs.Told.{there, told-anyway}
 use Rattle.act_board.proofs.LatestRuns.{latest-quiet}
 use Rattle.act_board.proofs.Readiness.{ready-quiet}
-use Rattle.act_board.proofs.board.Board.collect.Goals as goal
+use Rattle.act_board.proofs.board.Board.collect_oldest.Goals as goal
 
 pub oldest-ask-requires-clause-some : goal.oldest-ask-requires-clause-some
 oldest-ask-requires-clause-some c = λ one at.

@@ -2,7 +2,7 @@ use Rattle.std.proofs.Common.{◌≡◌, ℕ, suc, take, Ok, subst, arith}
 use Rattle.act_profile.specs.Steps.{start_of}
 use Rattle.act_run.specs.Resuming.{state_or_start}
 use Rattle.act_run.proofs.Resumed.{behind_last}
-use Rattle.act_run.proofs.rows.state_behind.Goals as goal
+use Rattle.act_run.proofs.rows.state_or_start.Goals as goal
 
 pub returns-in-Some : goal.returns-in-Some
 returns-in-Some c =

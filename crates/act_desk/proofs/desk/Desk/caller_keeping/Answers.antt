@@ -2,7 +2,7 @@ use Rattle.act_desk.proofs.Making.{made, stopped}
 use Rattle.act_desk.proofs.Watching.{given_up-seen, left-seen, prefix-trans, step-begins, watched-give_up, watched-present}
 use Rattle.act_desk.proofs.Way.{making-none, making-present}
 use Rattle.std.proofs.Common.{◌∙◌, inr}
-use Rattle.act_desk.proofs.desk.Desk.caller.Goals as goal
+use Rattle.act_desk.proofs.desk.Desk.caller_keeping.Goals as goal
 
 pub leave-requires-clause-done : goal.leave-requires-clause-done
 leave-requires-clause-done g c =

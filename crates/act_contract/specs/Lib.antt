@@ -1,2 +1,0 @@
--- What kinds there are.
-pub mod Kinds
