@@ -11,10 +11,7 @@ use crate::maturity::maturity_of;
 use act_loan::LoanTerms;
 use act_model::{Ann, Common, ContractType, Kind, Lam, Nam, Plan, PlanFault, Terms};
 
-// Inlined, all of them: a loan's terms are large, and each event asks for them.
-
 /// The terms of a LAM, a NAM or an ANN as a loan's, or why a LAM has no maturity.
-#[inline(always)]
 pub(crate) fn loan_terms(terms: &Terms) -> Result<LoanTerms<'_>, PlanFault>
     requires kind { amortizes (type_of terms.now.kind) ≡ true }
     requires built { IsBuilt terms.now.kind }
@@ -31,7 +28,6 @@ pub(crate) fn loan_terms(terms: &Terms) -> Result<LoanTerms<'_>, PlanFault>
 }
 
 /// The same of a contract that has a plan, and so a maturity.
-#[inline(always)]
 #[tactic(auto, using(crate::proofs::LoanPlans::no_plan_without_terms))]
 pub(crate) fn planned_terms<'a>(terms: &'a Terms, plan: &Plan) -> LoanTerms<'a>
     requires kind { amortizes (type_of terms.now.kind) ≡ true }
@@ -47,7 +43,6 @@ pub(crate) fn planned_terms<'a>(terms: &'a Terms, plan: &Plan) -> LoanTerms<'a>
 }
 
 /// The terms of a LAM, or why it has no maturity.
-#[inline(always)]
 fn lam_terms<'a>(common: &'a Common, lam: &'a Lam) -> Result<LoanTerms<'a>, PlanFault>
     requires { LamIsBuilt lam.now }
     ensures loan { loan_terms_or_fault common.now (kinds.LAM lam.now) ≡ Some result }
@@ -68,7 +63,6 @@ fn lam_terms<'a>(common: &'a Common, lam: &'a Lam) -> Result<LoanTerms<'a>, Plan
 }
 
 /// The terms of a NAM.
-#[inline(always)]
 fn nam_terms<'a>(common: &'a Common, nam: &'a Nam) -> LoanTerms<'a>
     ensures { loan_terms_or_fault common.now (kinds.NAM nam.now) ≡ Some (Ok result) }
 {
@@ -83,7 +77,6 @@ fn nam_terms<'a>(common: &'a Common, nam: &'a Nam) -> LoanTerms<'a>
 }
 
 /// The terms of an ANN.
-#[inline(always)]
 fn ann_terms<'a>(common: &'a Common, ann: &'a Ann) -> LoanTerms<'a>
     ensures { loan_terms_or_fault common.now (kinds.ANN ann.now) ≡ Some (Ok result) }
 {

@@ -1,5 +1,5 @@
 -- Runs that nobody can ask for any more.
-use Rattle.std.specs.Prelude.{◌≡◌, ◌⊎◌, ℕ, ◌<◌, true, List, length, Some}
+use Rattle.std.specs.Prelude.{◌≡◌, ◌⊎◌, ℕ, ◌<◌, ◌≤◌, true, List, length, Some}
 use Rattle.std.specs.List.{slice_get}
 use Rattle.act_model.specs.declared.asks.Asking.{Asking}
 use Rattle.act_board.specs.Kept.{is_done}
@@ -18,6 +18,10 @@ NoneOpen callers v = (k : ℕ) (caller : Caller) → slice_get callers k ≡ Som
 -- a version is before the book's, and no open ask is of it
 abbrev pub IsUnasked : List Caller → ℕ → ℕ → Type 0
 IsUnasked callers version v = (v < version) × NoneOpen callers v
+
+-- no open ask is of a version before one, which isn't behind the book's
+abbrev pub IsLeast : List Caller → ℕ → ℕ → Type 0
+IsLeast callers version least = (least ≤ version) × ((v : ℕ) → v < least → NoneOpen callers v)
 
 -- a pair's run is dropped, where it has one
 pub record IsDropped (old new : Pair) : Type 0 where

@@ -381,8 +381,8 @@ impl Board {
         put_mark(&mut self.marks, &Mark::GiveUp);
     }
 
-    /// Gives a caller the answer to the oldest of its asks that are open, once each contract that it asks for has a result.
-    /// Memory can run out only where it has.
+    /// Gives a caller the answer to the oldest of its asks that are open, once each contract that it asks for has a result, and
+    /// drops runs that nobody can ask for any more. Memory can run out only where it has.
     pub fn collect(&mut self, caller: u32) -> Result<Collected, NoMemory>
         requires present { IsPresent self.old caller }
         requires asked { 0 < length (open_asks self.old caller) }

@@ -1,6 +1,6 @@
 //! Runs that nobody can ask for any more.
-ghost use Rattle.std.specs.Prelude.{◌≡◌, true, false};
-ghost use Rattle.act_board.specs.Dropping.{Drops, IsDropped, IsUnasked, NoneOpen, NoneOf};
+ghost use Rattle.std.specs.Prelude.{◌≡◌, ◌≤◌, ◌<◌, ℕ, true};
+ghost use Rattle.act_board.specs.Dropping.{Drops, IsDropped, IsLeast, NoneOf};
 
 use crate::caller::Caller;
 use crate::pair::{Pair, Progress, is_done};
@@ -12,8 +12,9 @@ use std::collections::VecDeque;
 pub(crate) fn drop_runs(pairs: &mut [Pair], from: usize, callers: &[Caller], version: u64) -> usize
     ensures { Drops pairs.old callers.now version pairs.new }
 {
+    let least = least_open(callers, version);
     let mut place = from;
-    while place < pairs.len() && is_unasked(&pairs[place], callers, version) {
+    while place < pairs.len() && is_before(&pairs[place], least) {
         drop_run(&mut pairs[place]);
         place += 1;
     }
@@ -29,33 +30,32 @@ fn drop_run(pair: &mut Pair)
     }
 }
 
-/// Whether a pair is of a version before one, that no open ask is of.
-fn is_unasked(pair: &Pair, callers: &[Caller], version: u64) -> bool
-    ensures { result ≡ true → IsUnasked callers.now version pair.now.version }
+/// Whether a pair is of a version before one.
+fn is_before(pair: &Pair, version: u64) -> bool
+    ensures { result ≡ true → pair.now.version < version }
 {
-    pair.version < version && !is_open(callers, pair.version)
+    pair.version < version
 }
 
-/// Whether an open ask is of a version.
-fn is_open(callers: &[Caller], version: u64) -> bool
-    ensures { result ≡ false → NoneOpen callers.now version }
+/// The least version that open asks are of, or another one, where that is less.
+fn least_open(callers: &[Caller], version: u64) -> u64
+    ensures { IsLeast callers.now version result }
 {
+    let mut least = version;
     for caller in callers {
-        if has_version(&caller.open_asks, version) {
-            return true;
-        }
+        least = least_of(&caller.open_asks, least);
     }
-    false
+    least
 }
 
-/// Whether one of some asks is of a version.
-fn has_version(asks: &VecDeque<Asking>, version: u64) -> bool
-    ensures { result ≡ false → NoneOf asks.now.items version }
+/// The least version that some asks are of, or another one, where that is less.
+fn least_of(asks: &VecDeque<Asking>, version: u64) -> u64
+    ensures within { result ≤ version }
+    ensures least { (v : ℕ) → v < result → NoneOf asks.now.items v }
 {
+    let mut least = version;
     for place in 0..asks.len() {
-        if asks[place].version == version {
-            return true;
-        }
+        least = least.min(asks[place].version);
     }
-    false
+    least
 }

@@ -212,10 +212,15 @@ impl Task {
         requires run { run.now ≡ outcome self.now }
         ensures { result + length self.now.kept.rows ≡ length run.now.rows }
     {
-        let rows = run.rows.count();
         match &self.cached.run {
-            Some(kept) => (rows - kept_rows(kept, self.cached.cut)) as u64,
-            None => rows as u64,
+            Some(kept) => {
+                if is_kept_whole(kept, self.cached.cut) {
+                    0
+                } else {
+                    (run.rows.count() - kept_rows(kept, self.cached.cut)) as u64
+                }
+            }
+            None => run.rows.count() as u64,
         }
     }
 }
@@ -258,6 +263,13 @@ impl Done {
         ensures { result + length self.now.kept.rows ≡ length (outcome self.now).rows }
     {
         self.fresh
+    }
+
+    /// The contract's run.
+    pub fn run(&self) -> &Arc<Run, Global>
+        ensures { arc_value result.now ≡ outcome self.now }
+    {
+        &self.run
     }
 
     /// Its parts: the contract's number, how many entries it is of, and the run, twice.

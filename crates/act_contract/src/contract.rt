@@ -95,7 +95,7 @@ pub fn start(terms: &Terms, plan: &Plan) -> Result<State, Stop>
     }
 }
 
-/// The table of the steps of a contract that is a loan, which is made once for all its events.
+/// The table of the steps of a loan, which is made once for all its events. None where the contract isn't a loan.
 pub fn loan_table<'a>(terms: &'a Terms, plan: &'a Plan) -> Option<LoanTable<'a>>
     requires built { IsBuilt terms.now.kind }
     requires plan { plan_of terms.now ≡ Ok plan.now }
@@ -133,7 +133,8 @@ pub fn step<O: Observed, L: Ledger>(
 }
 
 /// Takes the step of an event, as [`step`] does, in place: the state becomes the one after the event, and what the event
-/// pays is answered. Where the run stops the state is of no use. The table of a loan is handed in.
+/// pays is answered. Where the run stops the state is of no use. A loan's table is handed in, and None where the contract
+/// isn't a loan.
 #[inline(always)]
 pub fn advance<O: Observed, L: Ledger>(
     terms: &Terms,

@@ -70,7 +70,6 @@ pub fn step<O: Observed, L: Ledger>(
 }
 
 /// The table of a PAM's steps, which is made once for all its events.
-#[inline(always)]
 #[tactic(auto, using(crate::proofs::Contracts::periods_of))]
 pub fn loan_table<'a>(terms: &'a Terms, plan: &'a Plan) -> LoanTable<'a>
     requires kind { type_of terms.now.kind ≡ ContractType.PAM }

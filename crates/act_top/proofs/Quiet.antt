@@ -2,7 +2,7 @@
 use Rattle.std.proofs.Common.{◌≡◌, ◌≢◌, not, max, min, Option, None, Some, ℕ, zero, suc, ◌+◌, ◌<◌, ◌≤◌, ◌==◌, ◌&&◌, cond, Bool, true, false, List, length, take, Ok, inl, inr, refl, sym, ap, subst, ◌∙◌, arith, eq-eqb, sum_by}
 use Rattle.std.specs.List.{Contains, range_with_len}
 use Rattle.std.proofs.lemmas.Bool.{and_from, and_parts, cases_Bool, eqb-true}
-use Rattle.std.proofs.lemmas.List.{take-append-drop}
+use Rattle.std.proofs.lemmas.List.{take-append-drop, take_all}
 use Rattle.std.proofs.lemmas.List.Elements.{Contains-append_right}
 use Rattle.act_model.specs.Journal.{book_of, contracts_of}
 use Rattle.act_model.specs.declared.asks.Asking.{Asking}
@@ -238,6 +238,13 @@ module _ (before mid : History) (work : Work) (claims : Claims before (claim.Tas
     now-version : version work ≡ version_of before
     now-version = version-now portfolio before quiet work.contract (version work) claims.2.claimable
 
+    -- it is of the contract's run over all entries
+    pub work-run : outcome work ≡ run_of before.portfolio.contracts (entries_of before) work.contract
+    work-run =
+        ap (λ (p : Accepted). run_of p.contracts work.entries work.contract) claims.1.portfolio
+        ∙ ap (λ (entries : List Obs). run_of before.portfolio.contracts entries work.contract)
+        (claims.1.entries ∙ ap (λ (v : ℕ). take v (entries_of before)) now-version ∙ take_all (version_of before) (entries_of before) (omega arith))
+
     -- it goes on from its run at an earlier version
     earlier : (u : ℕ) → has_result before work.contract u ≡ true → (u ≤ version work) × ((u == version work) ≡ false)
     earlier u has = (
@@ -275,6 +282,12 @@ module _ (before mid : History) (work : Work) (claims : Claims before (claim.Tas
       finished ∙ (rw under-way (ap (λ (h : History). and_then h (mark.Finish work.contract (version work))) mid-is)),
       omega (arith, all, ticked, fresh-left fresh all),
     )
+
+-- an evaluation appends nothing
+pub goes-same : (portfolio : Accepted) (before after : History) → IsQuiet portfolio before → (more : Bool) (ticks now : ℕ) → GoesOn more before after ticks now
+    → (after.portfolio ≡ before.portfolio) × (entries_of after ≡ entries_of before)
+goes-same portfolio before after quiet true ticks now is = (ap (λ (h : History). h.portfolio) is.3, ap entries_of is.3 ∙ made-entries portfolio before quiet is.0 is.1 is.2)
+goes-same portfolio before after quiet false ticks now is = (ap (λ (h : History). h.portfolio) is.1, ap entries_of is.1)
 
 -- ---- one evaluation after another
 

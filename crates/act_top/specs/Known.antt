@@ -4,38 +4,47 @@ use Rattle.std.specs.List.{All, slice_get}
 use Rattle.act_board.specs.History.{History, entries_of, version_of}
 use Rattle.act_model.specs.Answer.{Reply}
 use Rattle.act_model.specs.Run.{Stream}
-use Rattle.act_model.specs.declared.run.Row.{Row}
+use Rattle.act_print.specs.Text.{block_head_text}
 use Rattle.act_profile.specs.Kept.{kept_of}
 use Rattle.act_profile.specs.Run.{run_of}
 use Rattle.act_swap.specs.Children.{AreInDayOrder}
-use Rattle.act_text.specs.Kept.{Lines}
+use Rattle.act_text.specs.Kept.{AreWrittenWith, Lines}
+use Rattle.act_text.specs.Lines.{close_text}
+use Rattle.act_top.specs.declared.rows.Blocks.{Blocks}
 
--- the rows that are kept of a run under a cut are the first of rows, and where there is no cut these are all of its rows
-pub record IsKnownTo (cut : Option ℤ) (rows : List Row) (run : Stream) : Type 0 where
-  pub within : length (kept_of run cut).rows ≤ length rows
-  pub same : take (length (kept_of run cut).rows) rows ≡ take (length (kept_of run cut).rows) run.rows
-  pub whole : cut ≡ None → rows ≡ run.rows
+-- lines are the block of a contract with its run
+pub record IsBlock (c : ℕ) (run : Stream) (lines : Lines) : Type 0 where
+  pub front : lines.front ≡ block_head_text lines.names c
+  pub rows : lines.rows ≡ run.rows
+  pub back : lines.back ≡ close_text lines.names run.close
 
--- where it is told of a contract which rows are kept, the rows of its run stand by their days, and those of its lines that are kept are known to it
-abbrev pub IsKnown : List (Option ℤ) → List Lines → ℕ → Stream → Type 0
-IsKnown cuts kept c run = (cut : Option ℤ) → slice_get cuts c ≡ Some cut
-    → AreInDayOrder run.rows × ((lines : Lines) → slice_get kept c ≡ Some lines → IsKnownTo cut lines.rows run)
+-- behind a contract's head, the rows that are kept of its run under a cut are the first of lines, and where there is no cut these are the run's block
+pub record IsKnownTo (c : ℕ) (cut : Option ℤ) (lines : Lines) (run : Stream) : Type 0 where
+  pub front : lines.front ≡ block_head_text lines.names c
+  pub within : length (kept_of run cut).rows ≤ length lines.rows
+  pub same : take (length (kept_of run cut).rows) lines.rows ≡ take (length (kept_of run cut).rows) run.rows
+  pub whole : cut ≡ None → IsBlock c run lines
+
+-- where a cut is told of a contract, the rows of its run stand by their days, and the lines that are kept are known to it
+abbrev pub IsKnown : List (Option (Option ℤ)) → List Lines → ℕ → Stream → Type 0
+IsKnown cuts kept c run = (cut : Option ℤ) → slice_get cuts c ≡ Some (Some cut)
+    → AreInDayOrder run.rows × ((lines : Lines) → slice_get kept c ≡ Some lines → IsKnownTo c cut lines run)
 
 -- the same of contracts with their runs, unless there are no cuts. Runs of one contract are the same
-abbrev pub AreKnown : List (Option ℤ) → List Lines → List (ℕ × Stream) → Type 0
+abbrev pub AreKnown : List (Option (Option ℤ)) → List Lines → List (ℕ × Stream) → Type 0
 AreKnown cuts kept runs = (cuts ≡ []) ⊎ ((own : ℕ → Stream) × All (λ (run : ℕ × Stream). run.1 ≡ own run.0) runs × All (λ (run : ℕ × Stream). IsKnown cuts kept run.0 run.1) runs)
 
--- the lines that are kept of a contract are of a run's rows, and those of others stay
+-- the lines that are kept of a contract are its block with a run, and those of others stay
 pub record IsRenewed (c : ℕ) (run : Stream) (before after : List Lines) : Type 0 where
   pub count : length after ≡ length before
-  pub this : (lines : Lines) → slice_get after c ≡ Some lines → lines.rows ≡ run.rows
+  pub this : (lines : Lines) → slice_get after c ≡ Some lines → IsBlock c run lines
   pub others : (d : ℕ) → d ≢ c → slice_get after d ≡ slice_get before d
 
--- the lines that are kept of each contract with a run are of this run's rows, where runs of one contract have the same rows
+-- the lines that are kept of each contract with a run are its block with this run, where runs of one contract are the same
 pub record AreRenewed (runs : List (ℕ × Stream)) (before after : List Lines) : Type 0 where
   pub count : length after ≡ length before
-  pub each : (rows : ℕ → List Row) → All (λ (run : ℕ × Stream). run.1.rows ≡ rows run.0) runs
-      → All (λ (run : ℕ × Stream). (lines : Lines) → slice_get after run.0 ≡ Some lines → lines.rows ≡ rows run.0) runs
+  pub each : (own : ℕ → Stream) → All (λ (run : ℕ × Stream). run.1 ≡ own run.0) runs
+      → All (λ (run : ℕ × Stream). (lines : Lines) → slice_get after run.0 ≡ Some lines → IsBlock run.0 (own run.0) lines) runs
 
 -- ---- of a board
 
@@ -48,10 +57,32 @@ pub record IsReplyOn (board : History) (reply : Reply) : Type 0 where
 abbrev pub AreOfAll : ℕ → List (ℕ × Stream) → Type 0
 AreOfAll count runs = (c : ℕ) → c < count → (run : ℕ × Stream) × (slice_get runs c ≡ Some run) × (run.0 ≡ c)
 
--- the lines that are kept of contracts are those of their runs at a version of a board's book
+-- the lines that are kept of contracts are their blocks with their runs at a version of a board's book
 abbrev pub AreWrittenAt : History → List Lines → ℕ → Type 0
-AreWrittenAt board kept version = (c : ℕ) (lines : Lines) → slice_get kept c ≡ Some lines → lines.rows ≡ (run_of board.portfolio.contracts (take version (entries_of board)) c).rows
+AreWrittenAt board kept version = (c : ℕ) (lines : Lines) → slice_get kept c ≡ Some lines → IsBlock c (run_of board.portfolio.contracts (take version (entries_of board)) c) lines
 
 -- where a version is given, it is one of the book's, and they were written at it
 abbrev pub AreKeptAt : History → List Lines → Option ℕ → Type 0
 AreKeptAt board kept at = IfSome at (λ version. (version ≤ version_of board) × AreWrittenAt board kept version)
+
+-- ---- while an ask is evaluated
+
+-- what is known of blocks is so of the runs over all entries of a board's book
+abbrev pub AreKnownOn : History → Blocks → Type 0
+AreKnownOn board blocks = (c : ℕ) → IsKnown blocks.known.items blocks.kept.items c (run_of board.portfolio.contracts (entries_of board) c)
+
+-- blocks of a board: each is of a contract with a name, and written with these
+pub record AreBlocksOn (board : History) (blocks : Blocks) : Type 0 where
+  pub named : length blocks.kept.items ≤ length blocks.names.now.contracts
+  pub written : AreWrittenWith blocks.names.now blocks.kept.items
+  pub known : AreKnownOn board blocks
+
+-- blocks are of the same contracts as others
+pub record AreOnesOf (before after : Blocks) : Type 0 where
+  pub names : after.names.now ≡ before.names.now
+  pub count : length after.kept.items ≡ length before.kept.items
+
+-- what is known of a contract's block is so of a run, and the blocks of others stay
+pub record IsPut (c : ℕ) (run : Stream) (before after : Blocks) : Type 0 where
+  pub this : IsKnown after.known.items after.kept.items c run
+  pub others : (d : ℕ) → d ≢ c → (slice_get after.known.items d ≡ slice_get before.known.items d) × (slice_get after.kept.items d ≡ slice_get before.kept.items d)

@@ -9,11 +9,11 @@ ghost use Rattle.act_top.specs.Output.{ends_well, eval_text, items_of, output_of
 ghost use Rattle.act_top.specs.Work.{work_of};
 ghost use Rattle.act_top.specs.Written.{Writes, faults_after};
 
-use crate::by_cuts::write_by_cuts;
-use crate::driving::{answer, append};
+use crate::by_cuts::write_now;
+use crate::driving::{answer_with, append};
 use crate::evaluation::Evaluation;
 use crate::journal::{ask_count, entry_count};
-use crate::rows::no_lines;
+use crate::rows::{Blocks, no_lines};
 use crate::transcript::{write_opening, write_work};
 use crate::writing::Stop;
 use act_board::Board;
@@ -66,7 +66,7 @@ impl Evaluation {
     {
         let mut board = self.board(alloc)?;
         write_opening(out, line, &self.script)?;
-        self.write_answers(alloc, out, line, &mut board, work, steps)
+        self.write_answers(alloc, out, &mut board, work, steps)
     }
 
     /// A board on which nothing has happened, for the one caller.
@@ -82,7 +82,6 @@ impl Evaluation {
         &self,
         alloc: Global,
         out: &mut K,
-        line: &mut Vec<u8>,
         board: &mut Board,
         work: &mut u64,
         steps: &mut Steps<L>,
@@ -98,22 +97,35 @@ impl Evaluation {
     {
         let contracts = self.portfolio.named() as usize;
         let answers = ask_count(&self.script.lines);
-        let mut kept = no_lines(alloc, self.names(), contracts, answers)?;
-        // The version at which the kept lines of all contracts were written.
+        let kept = no_lines(alloc, self.names(), contracts, answers)?;
+        let mut blocks = Blocks {
+            names: self.names(),
+            line: Vec::new(alloc),
+            kept,
+            known: Vec::new(alloc),
+        };
+        // The version at which the blocks of all contracts were written.
         let mut at = None;
         let mut ended = true;
         for step in &self.script.lines {
             match step.step {
                 Step::Append(entry) => append(board, entry)?,
                 Step::Ask(asked) => {
-                    let answer = answer(alloc, &self.portfolio, board, asked, work, steps)?;
-                    let names = self.names();
-                    let written = write_by_cuts(
-                        out, line, names, &mut kept, board, &mut at, &answer,
-                    );
+                    let answer = answer_with(
+                        alloc,
+                        &self.portfolio,
+                        board,
+                        asked,
+                        &mut blocks,
+                        at,
+                        work,
+                        steps,
+                    )?;
+                    let written = write_now(out, &mut blocks, board, &answer);
                     drop(answer);
-                    let ends = written?;
+                    let (ends, version) = written?;
                     ended &= ends;
+                    at = version;
                 }
             }
         }

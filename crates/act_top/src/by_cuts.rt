@@ -1,6 +1,6 @@
 //! Answers of a board, written one after the other. Rows before the first day that an entry between two answers touches are the
 //! same in both, so their lines are written again as they are kept.
-ghost use Rattle.std.specs.Prelude.{◌≡◌, ◌≤◌, ◌<◌, ℕ, ℤ, Option, Some, length, slice_get, take, IfOk, IfSome, IsSomeAnd, IsTrue};
+ghost use Rattle.std.specs.Prelude.{◌≡◌, ◌≤◌, ◌<◌, ℕ, ℤ, Option, Some, length, slice_get, take, IfOk, IfSome, IsSomeAnd, IsTrue, OnOk};
 ghost use Rattle.std.specs.List.{All, list_all};
 ghost use Rattle.act_board.specs.History.{entries_of, version_of};
 ghost use Rattle.act_model.specs.Answer.{Reply};
@@ -11,11 +11,12 @@ ghost use Rattle.act_profile.specs.Kept.{kept_of};
 ghost use Rattle.act_profile.specs.Run.{run_of};
 ghost use Rattle.act_session.specs.Playing.{replies_of};
 ghost use Rattle.act_text.specs.Kept.{AreWrittenWith};
-ghost use Rattle.act_top.specs.Known.{AreKeptAt, AreOfAll, IsReplyOn};
+ghost use Rattle.act_top.specs.Known.{AreKeptAt, AreKnownOn, AreOfAll, IsReplyOn};
 ghost use Rattle.act_top.specs.Output.{ends_well};
 ghost use Rattle.act_top.specs.Ready.{answers_text, shared_runs};
 ghost use Rattle.act_top.specs.Written.{Writes, faults_after};
 
+use crate::rows::Blocks;
 use crate::transcript::write_answer;
 use crate::writing::Stop;
 use act_board::Board;
@@ -106,10 +107,94 @@ pub(crate) fn write_by_cuts<K: Sink>(
     ensures at { IfOk result (λ _. AreKeptAt board.old kept.new at.new) }
     ensures board { board.new ≡ board.old }
 {
-    let cuts = cuts_since(*line.allocator(), board, *at, answer.version);
-    let ends = write_answer(out, line, names, kept, &cuts, answer)?;
+    let known = known_since(*line.allocator(), board, *at, answer.version, kept.len())?;
+    let ends = write_answer(out, line, names, kept, &known, answer)?;
     *at = written_at(answer, kept.len());
     Ok(ends)
+}
+
+/// Tells of blocks that were written at a version of a board's book, where it is given, what of them stays now.
+pub(crate) fn know(
+    alloc: Global,
+    blocks: &mut Blocks<'_>,
+    board: &mut Board,
+    at: Option<u64>,
+) -> Result<(), NoMemory>
+    requires { AreKeptAt board.old blocks.old.kept.items at }
+    ensures known { OnOk result (AreKnownOn board.old blocks.new) }
+    ensures names { blocks.new.names.now ≡ blocks.old.names.now }
+    ensures kept { blocks.new.kept ≡ blocks.old.kept }
+    ensures board { board.new ≡ board.old }
+{
+    let version = board.version();
+    blocks.known = known_since(alloc, board, at, version, blocks.kept.len())?;
+    Ok(())
+}
+
+/// Writes an answer at the version of a board's book, and answers whether each of its blocks ends in `end`, and the version at
+/// which the blocks of all contracts were written, where that is known then.
+pub(crate) fn write_now<K: Sink>(
+    out: &mut K,
+    blocks: &mut Blocks<'_>,
+    board: &Board,
+    answer: &Answer,
+) -> Result<(bool, Option<u64>), Stop>
+    requires named { All (λ (run : ℕ × Stream). run.0 < length blocks.old.names.now.contracts) answer.now.runs }
+    requires reply { IsReplyOn board.now answer.now }
+    requires version { answer.now.version ≡ version_of board.now }
+    requires written { AreWrittenWith blocks.old.names.now blocks.old.kept.items }
+    requires known { AreKnownOn board.now blocks.old }
+    ensures text { Writes result (answer_text blocks.old.names.now (printed_answer answer.now)) (K.written out.old) (K.written out.new) }
+    ensures ended { IfOk result (λ wrote. wrote.0 ≡ ends_well answer.now) }
+    ensures faults { K.faults out.new ≡ faults_after result (K.faults out.old) }
+    ensures names { blocks.new.names.now ≡ blocks.old.names.now }
+    ensures written { AreWrittenWith blocks.old.names.now blocks.new.kept.items }
+    ensures count { IfOk result (λ _. length blocks.new.kept.items ≡ length blocks.old.kept.items) }
+    ensures at { IfOk result (λ wrote. AreKeptAt board.now blocks.new.kept.items wrote.1) }
+{
+    let ends = write_answer(
+        out,
+        &mut blocks.line,
+        blocks.names,
+        &mut blocks.kept,
+        &blocks.known,
+        answer,
+    )?;
+    Ok((ends, written_at(answer, blocks.kept.len())))
+}
+
+/// Of each contract, so many, what of its block stays from one version to another, as `cuts_since` tells.
+fn known_since(
+    alloc: Global,
+    board: &mut Board,
+    at: Option<u64>,
+    version: u64,
+    contracts: usize,
+) -> Result<Vec<Option<Option<Day>>>, NoMemory>
+    requires at { IfSome at (λ at. at ≤ version_of board.old) }
+    requires version { version ≤ version_of board.old }
+    ensures kept { IfOk result (λ known. (c : ℕ) (cut : Option ℤ) → slice_get known.items c ≡ Some (Some cut) → IsSomeAnd at (λ at.
+        kept_of (run_of board.old.portfolio.contracts (take at (entries_of board.old)) c) cut
+        ≡ kept_of (run_of board.old.portfolio.contracts (take version (entries_of board.old)) c) cut)) }
+    ensures board { board.new ≡ board.old }
+{
+    let cuts = cuts_since(alloc, board, at, version);
+    each_known(alloc, &cuts, contracts)
+}
+
+/// The cuts of contracts, so many, where they have one.
+fn each_known(
+    alloc: Global,
+    cuts: &[Option<Day>],
+    contracts: usize,
+) -> Result<Vec<Option<Option<Day>>>, NoMemory>
+    ensures { IfOk result (λ known. (c : ℕ) (cut : Option ℤ) → slice_get known.items c ≡ Some (Some cut) → slice_get cuts.now c ≡ Some cut) }
+{
+    let mut known = Vec::with_capacity(alloc, contracts)?;
+    for place in 0..contracts {
+        known.push(cuts.get(place).copied())?;
+    }
+    Ok(known)
 }
 
 /// For each contract, the day from which on entries between two versions touch its cone, or None where none of them does; for no

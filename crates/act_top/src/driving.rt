@@ -1,5 +1,6 @@
 //! The board of a script, driven by one thread: the steps of the one caller, and the evaluations that it asks for.
-ghost use Rattle.std.specs.Prelude.{◌≡◌, ◌+◌, ◌<◌, ◌≤◌, List, [], false, length, take, true, IfOk};
+ghost use Rattle.std.specs.Prelude.{◌≡◌, ◌+◌, ◌<◌, ◌≤◌, List, [], false, length, take, true, IfOk, OnOk};
+ghost use Rattle.std.specs.Arc.{arc_value};
 ghost use Rattle.act_board.specs.History.{IsPresent, and_then, asks_by, entries_of, is_given_up, open_asks, version_of};
 ghost use Rattle.act_board.specs.Legal.{HasQuota, IsFull, IsOldest, IsReady, NoneIsClaimable, most_asks};
 ghost use Rattle.act_board.specs.declared.mark.Mark.TheVariants as mark;
@@ -9,15 +10,21 @@ ghost use Rattle.act_model.specs.declared.asks.Asking.{Asking};
 ghost use Rattle.act_model.specs.declared.journal.Step.TheVariants as step;
 ghost use Rattle.act_model.specs.declared.observed.Obs.{Obs};
 ghost use Rattle.act_profile.specs.Answers.{answer_to};
+ghost use Rattle.act_swap.specs.Children.{AreInDayOrder};
 ghost use Rattle.act_top.specs.Work.{ask_work};
+ghost use Rattle.act_text.specs.Kept.{AreWrittenWith};
+ghost use Rattle.act_top.specs.Known.{AreBlocksOn, AreKeptAt, AreOnesOf, IsKnown, IsPut};
 ghost use Rattle.act_top.specs.Driven.{Adds, AreLatest, GoesOn, IsLater, IsQuiet, OnlyWorks, next_ask, rows_since};
 
+use crate::by_cuts::know;
 use crate::journal::CALLER;
+use crate::rows::Blocks;
 use act_board::{AppendFault, AskFault, Board, Claim, Collected};
-use act_model::{Answer, Asked, Obs};
+use act_model::{Answer, Asked, Names, Obs, Run};
 use act_num::{NoMemory, Steps};
 use act_portfolio::Portfolio;
 use std::alloc::Global;
+use std::sync::Arc;
 use std::sync::ledger::Ledger;
 
 /// The caller appends an entry.
@@ -61,11 +68,58 @@ pub fn answer<L: Ledger>(
         steps.new ≡ steps.old + ask_work portfolio.now book (asks_by board.old CALLER) (next_ask board.old asked)) }
     ensures counted { IfOk result (λ _. work.new + steps.old ≡ work.old + steps.new) }
 {
+    let names = Names::new(alloc);
+    let mut blocks = Blocks::none(alloc, &names);
+    answer_with(
+        alloc,
+        portfolio,
+        board,
+        asked,
+        &mut blocks,
+        None,
+        work,
+        steps,
+    )
+}
+
+/// The same, and the blocks of contracts that are asked for and evaluated are put together. They were written at a version of
+/// the board's book, where that is given.
+pub(crate) fn answer_with<L: Ledger>(
+    alloc: Global,
+    portfolio: &Portfolio,
+    board: &mut Board,
+    asked: Asked,
+    blocks: &mut Blocks<'_>,
+    at: Option<u64>,
+    work: &mut u64,
+    steps: &mut Steps<L>,
+) -> Result<Answer, NoMemory>
+    requires quiet { IsQuiet portfolio.now board.old }
+    requires closed { open_asks board.old CALLER ≡ [] }
+    requires latest { AreLatest portfolio.now board.old }
+    requires few { length (asks_by board.old CALLER) < most_asks }
+    requires known { is_known portfolio.now.names (step.Ask asked) ≡ true }
+    requires named { length blocks.old.kept.items ≤ length blocks.old.names.now.contracts }
+    requires written { AreWrittenWith blocks.old.names.now blocks.old.kept.items }
+    requires at { AreKeptAt board.old blocks.old.kept.items at }
+    ensures quiet { IfOk result (λ _. IsQuiet portfolio.now board.new) }
+    ensures closed { IfOk result (λ _. open_asks board.new CALLER ≡ []) }
+    ensures latest { IfOk result (λ _. AreLatest portfolio.now board.new) }
+    ensures asked { IfOk result (λ _. Adds asked board.old board.new) }
+    ensures answer { IfOk result (λ answer. answer
+        ≡ answer_to portfolio.now.contracts portfolio.now.names (entries_of board.old) (next_ask board.old asked)) }
+    ensures ticked { IfOk result (λ _. (book : List Obs) → take (version_of board.old) book ≡ entries_of board.old →
+        steps.new ≡ steps.old + ask_work portfolio.now book (asks_by board.old CALLER) (next_ask board.old asked)) }
+    ensures counted { IfOk result (λ _. work.new + steps.old ≡ work.old + steps.new) }
+    ensures blocks { IfOk result (λ _. AreBlocksOn board.new blocks.new) }
+    ensures same { IfOk result (λ _. AreOnesOf blocks.old blocks.new) }
+{
     // A portfolio tells of its order and its names only where it is asked for them.
     let _ = portfolio.order();
     let _ = portfolio.named();
+    know(alloc, blocks, board, at)?;
     ask(board, asked)?;
-    evaluate_all(alloc, portfolio, board, work, steps)?;
+    evaluate_all(alloc, portfolio, board, asked, blocks, work, steps)?;
     collect(board)
 }
 
@@ -90,20 +144,25 @@ fn evaluate_all<L: Ledger>(
     alloc: Global,
     portfolio: &Portfolio,
     board: &mut Board,
+    asked: Asked,
+    blocks: &mut Blocks<'_>,
     work: &mut u64,
     steps: &mut Steps<L>,
 ) -> Result<(), NoMemory>
     requires quiet { IsQuiet portfolio.now board.old }
+    requires blocks { AreBlocksOn board.old blocks.old }
     ensures quiet { IfOk result (λ _. IsQuiet portfolio.now board.new) }
     ensures none { IfOk result (λ _. NoneIsClaimable board.new) }
     ensures works { IfOk result (λ _. OnlyWorks board.old board.new) }
     ensures later { IfOk result (λ _. IsLater board.old board.new) }
     ensures ticked { IfOk result (λ _. steps.new ≡ steps.old + rows_since board.old board.new) }
     ensures counted { IfOk result (λ _. work.new + steps.old ≡ work.old + steps.new) }
+    ensures blocks { IfOk result (λ _. AreBlocksOn board.new blocks.new) }
+    ensures same { IfOk result (λ _. AreOnesOf blocks.old blocks.new) }
 {
     let mut more = true;
     while more {
-        more = evaluate_next(alloc, portfolio, board, work, steps)?;
+        more = evaluate_next(alloc, portfolio, board, asked, blocks, work, steps)?;
     }
     Ok(())
 }
@@ -113,32 +172,72 @@ fn evaluate_next<L: Ledger>(
     alloc: Global,
     portfolio: &Portfolio,
     board: &mut Board,
+    asked: Asked,
+    blocks: &mut Blocks<'_>,
     work: &mut u64,
     steps: &mut Steps<L>,
 ) -> Result<bool, NoMemory>
     requires quiet { IsQuiet portfolio.now board.old }
+    requires blocks { AreBlocksOn board.old blocks.old }
     ensures goes_on { IfOk result (λ more. GoesOn more board.old board.new steps.old steps.new) }
     ensures counted { IfOk result (λ _. work.new + steps.old ≡ work.old + steps.new) }
+    ensures blocks { IfOk result (λ _. AreBlocksOn board.new blocks.new) }
+    ensures same { IfOk result (λ _. AreOnesOf blocks.old blocks.new) }
 {
     match board.claim()? {
-        Claim::Task(task) => match task.work(alloc, portfolio, steps) {
-            Ok(done) => {
-                let fresh = done.fresh();
-                board.finish(done);
-                let Some(total) = work.checked_add(fresh) else {
-                    return Err(NoMemory);
-                };
-                *work = total;
-                Ok(true)
+        Claim::Task(task) => {
+            let contract = task.contract();
+            match task.work(alloc, portfolio, steps) {
+                Ok(done) => {
+                    let fresh = done.fresh();
+                    let put = put_asked(blocks, asked, contract, done.run());
+                    board.finish(done);
+                    put?;
+                    let Some(total) = work.checked_add(fresh) else {
+                        return Err(NoMemory);
+                    };
+                    *work = total;
+                    Ok(true)
+                }
+                Err(task) => {
+                    drop(task);
+                    Err(NoMemory)
+                }
             }
-            Err(task) => {
-                drop(task);
-                Err(NoMemory)
-            }
-        },
+        }
         Claim::Idle => Ok(false),
         Claim::Ended => unreachable!(),
         Claim::GivenUp => unreachable!(),
+    }
+}
+
+/// Puts together the block of a contract that was evaluated, if it is asked for: its rows were looked at last.
+fn put_asked(
+    blocks: &mut Blocks<'_>,
+    asked: Asked,
+    contract: u32,
+    run: &Arc<Run, Global>,
+) -> Result<(), NoMemory>
+    requires named { length blocks.old.kept.items ≤ length blocks.old.names.now.contracts }
+    requires written { AreWrittenWith blocks.old.names.now blocks.old.kept.items }
+    requires order { AreInDayOrder (arc_value run.now).rows }
+    requires known { IsKnown blocks.old.known.items blocks.old.kept.items contract (arc_value run.now) }
+    ensures same { AreOnesOf blocks.old blocks.new }
+    ensures written { AreWrittenWith blocks.old.names.now blocks.new.kept.items }
+    ensures put { OnOk result (IsPut contract (arc_value run.now) blocks.old blocks.new) }
+{
+    if is_of(asked, contract) {
+        blocks.put(contract, run)
+    } else {
+        Ok(())
+    }
+}
+
+/// Whether a contract is asked for by its number, or each is.
+fn is_of(asked: Asked, contract: u32) -> bool {
+    match asked {
+        Asked::All => true,
+        Asked::One(one) => one == contract,
     }
 }
 

@@ -275,19 +275,19 @@ fn write_answer_list<K: Sink>(
 }
 
 /// Writes an answer, and answers whether each of its blocks ends in `end`. `kept` has the lines of rows that were written last,
-/// and where `cuts` tells of a contract, these are known to be the lines of its rows before the cut here too, or of all where
-/// that is None.
+/// and where `known` has a cut of a contract, these are those of its block here too, with the rows before that day, or the whole
+/// block where the cut is None.
 pub(crate) fn write_answer<K: Sink>(
     out: &mut K,
     line: &mut Vec<u8>,
     names: &Names,
     kept: &mut [RowLines<'_>],
-    cuts: &[Option<Day>],
+    known: &[Option<Option<Day>>],
     answer: &Answer,
 ) -> Result<bool, Stop>
     requires named { All (λ (run : ℕ × Stream). run.0 < length names.now.contracts) answer.now.runs }
     requires kept { AreWrittenWith names.now kept.old }
-    requires known { AreKnown cuts.now kept.old answer.now.runs }
+    requires known { AreKnown known.now kept.old answer.now.runs }
     ensures text { Writes result (answer_text names.now (printed_answer answer.now)) (K.written out.old) (K.written out.new) }
     ensures ended { IfOk result (λ ended. ended ≡ ends_well answer.now) }
     ensures faults { K.faults out.new ≡ faults_after result (K.faults out.old) }
@@ -295,7 +295,7 @@ pub(crate) fn write_answer<K: Sink>(
     ensures renewed { IfOk result (λ _. AreRenewed answer.now.runs kept.old kept.new) }
 {
     write_answer_head(out, line, answer)?;
-    write_blocks(out, line, names, kept, cuts, &answer.runs)
+    write_blocks(out, line, names, kept, known, &answer.runs)
 }
 
 /// Writes the blocks of contracts with their runs, and answers whether each ends in `end`.
@@ -304,12 +304,12 @@ fn write_blocks<K: Sink>(
     line: &mut Vec<u8>,
     names: &Names,
     kept: &mut [RowLines<'_>],
-    cuts: &[Option<Day>],
+    known: &[Option<Option<Day>>],
     runs: &[(u32, Arc<Run, Global>)],
 ) -> Result<bool, Stop>
     requires named { All (λ (run : ℕ × Stream). run.0 < length names.now.contracts) (shared_runs runs.now) }
     requires kept { AreWrittenWith names.now kept.old }
-    requires known { AreKnown cuts.now kept.old (shared_runs runs.now) }
+    requires known { AreKnown known.now kept.old (shared_runs runs.now) }
     ensures text { Writes result (runs_text names.now (shared_runs runs.now)) (K.written out.old) (K.written out.new) }
     ensures ended { IfOk result (λ ended. ended ≡ all_end (shared_runs runs.now)) }
     ensures faults { K.faults out.new ≡ faults_after result (K.faults out.old) }
@@ -318,7 +318,7 @@ fn write_blocks<K: Sink>(
 {
     let mut ended = true;
     for run in runs {
-        let ends = write_block(out, line, names, kept, cuts, run.0, &run.1)?;
+        let ends = write_block(out, line, names, kept, known, run.0, &run.1)?;
         ended &= ends;
     }
     Ok(ended)
@@ -330,20 +330,20 @@ fn write_block<K: Sink>(
     line: &mut Vec<u8>,
     names: &Names,
     kept: &mut [RowLines<'_>],
-    cuts: &[Option<Day>],
+    known: &[Option<Option<Day>>],
     contract: u32,
     run: &Arc<Run, Global>,
 ) -> Result<bool, Stop>
     requires contract { contract < length names.now.contracts }
     requires kept { AreWrittenWith names.now kept.old }
-    requires known { IsKnown cuts.now kept.old contract (arc_value run.now) }
+    requires known { IsKnown known.now kept.old contract (arc_value run.now) }
     ensures text { Writes result (block_text names.now (printed_block (contract, arc_value run.now))) (K.written out.old) (K.written out.new) }
     ensures ended { IfOk result (λ ended. ended ≡ is_end (arc_value run.now).close) }
     ensures faults { K.faults out.new ≡ faults_after result (K.faults out.old) }
     ensures kept { AreWrittenWith names.now kept.new }
     ensures renewed { IfOk result (λ _. IsRenewed contract (arc_value run.now) kept.old kept.new) }
 {
-    write_run(out, line, names, kept, cuts, contract, run)?;
+    write_run(out, line, names, kept, known, contract, run)?;
     Ok(is_end(&run.close))
 }
 

@@ -1,6 +1,5 @@
-use Rattle.std.proofs.Common.{[], ap, ◌∙◌}
+use Rattle.std.proofs.Common.{[], ap}
 use Rattle.act_model.specs.Run.{EventPlan}
-use Rattle.act_profile.specs.LoanTerms.{LoanTerms}
 use Rattle.act_loan.proofs.Contracts.{accrual_of_table, line_of_table, step_of_loan}
 use Rattle.act_loan.proofs.steps.advance_loan.Goals as goal
 

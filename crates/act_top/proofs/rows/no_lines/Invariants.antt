@@ -1,10 +1,13 @@
-use Rattle.std.proofs.Common.{◌-◌, length}
+use Rattle.std.proofs.Common.{◌-◌, ◌≤◌, length}
 use Rattle.act_text.specs.Kept.{AreWrittenWith}
 use Rattle.act_top.proofs.rows.no_lines.Given as goal
 
 -- the places so far
 abbrev pub invariant-places : goal.invariant-places
-invariant-places l = AreWrittenWith l.names l.kept.items
+invariant-places l = record {
+  written : AreWrittenWith l.names l.kept.items;
+  few : length l.kept.items ≤ l.places;
+}
 
 -- how many are missing
 abbrev pub decreases-places : goal.decreases-places

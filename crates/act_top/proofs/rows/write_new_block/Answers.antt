@@ -1,21 +1,32 @@
-use Rattle.std.proofs.Common.{ap}
+use Rattle.std.proofs.Common.{◌∙◌, ◌++◌, ap}
 use Rattle.act_model.specs.Run.{Stream}
-use Rattle.act_top.proofs.Texts.{part-behind, part-first, then-text, writes-behind, writes-first}
+use Rattle.act_print.specs.Text.{block_head_text}
+use Rattle.act_top.proofs.Blocks.{block-parts}
+use Rattle.act_top.proofs.Texts.{part-behind, part-first, then-text, writes-behind, writes-first, writes-none}
 use Rattle.act_top.proofs.rows.write_new_block.Goals as goal
+
+pub returns-in_err-block_head-clause-text : goal.returns-in_err-block_head-clause-text
+returns-in_err-block_head-clause-text g c = writes-none c.from_residual.result _ _ c.from_residual.ensures.1
 
 pub returns-in_err-write_text-clause-text : goal.returns-in_err-write_text-clause-text
 returns-in_err-write_text-clause-text g c =
-    writes-first c.from_residual.result _ _ _ _ _ c.from_residual.ensures.1 (part-first c.in_err-write_text.field-0.0 _ _ _ _ (rw c.deref.ensures.value at c.in_err-write_text.ensures.text))
+    let head = c.in_ok-block_head.ensures.ok ∙ ap (λ line. line ++ block_head_text c.args.names.now c.args.contract) c.clear.ensures.items in
+    rw (block-parts c.args.names.now c.args.contract c.args.run.now)
+    (writes-first c.from_residual-in_err-write_text.result _ _ _ _ _ c.from_residual-in_err-write_text.ensures.1 (part-first c.in_err-write_text.field-0.0 _ _ _ _ (rw (c.deref.ensures.value, head) at c.in_err-write_text.ensures.text)))
 
 pub returns-in_err-write_new_rows-clause-text : goal.returns-in_err-write_new_rows-clause-text
 returns-in_err-write_new_rows-clause-text g c =
+    let head = c.in_ok-block_head.ensures.ok ∙ ap (λ line. line ++ block_head_text c.args.names.now c.args.contract) c.clear.ensures.items in
     let rows = ap (λ (run : Stream). run.rows) c.run.view_is in
-    writes-first c.from_residual-in_err-write_new_rows.result _ _ _ _ _ c.from_residual-in_err-write_new_rows.ensures.1
-    (part-behind c.in_err-write_new_rows.field-0.0 _ _ _ _ _ (rw c.deref.ensures.value at c.in_ok-write_text.ensures.text) (rw rows at c.in_err-write_new_rows.ensures.text))
+    rw (block-parts c.args.names.now c.args.contract c.args.run.now)
+    (writes-first c.from_residual-in_err-write_new_rows.result _ _ _ _ _ c.from_residual-in_err-write_new_rows.ensures.1
+    (part-behind c.in_err-write_new_rows.field-0.0 _ _ _ _ _ (rw (c.deref.ensures.value, head) at c.in_ok-write_text.ensures.text) (rw rows at c.in_err-write_new_rows.ensures.text)))
 
 pub returns-clause-text : goal.returns-clause-text
 returns-clause-text g c =
+    let head = c.in_ok-block_head.ensures.ok ∙ ap (λ line. line ++ block_head_text c.args.names.now c.args.contract) c.clear.ensures.items in
     let rows = ap (λ (run : Stream). run.rows) c.run.view_is in
     let close = ap (λ (run : Stream). run.close) c.run.view_is in
-    writes-behind c.write_close.result _ _ _ _ _
-    (then-text _ _ _ _ _ (rw c.deref.ensures.value at c.in_ok-write_text.ensures.text) (rw rows at c.in_ok-write_new_rows.ensures.text)) (rw close at c.write_close.ensures.text)
+    rw (block-parts c.args.names.now c.args.contract c.args.run.now)
+    (writes-behind c.write_close.result _ _ _ _ _
+    (then-text _ _ _ _ _ (rw (c.deref.ensures.value, head) at c.in_ok-write_text.ensures.text) (rw rows at c.in_ok-write_new_rows.ensures.text)) (rw close at c.write_close.ensures.text))

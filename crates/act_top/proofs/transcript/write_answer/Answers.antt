@@ -14,7 +14,7 @@ returns-in_err-write_answer_head-clause-text g c =
 
 pub write_blocks-requires-clause-known : goal.write_blocks-requires-clause-known
 write_blocks-requires-clause-known g c =
-    subst (λ (runs : List (ℕ × Stream)). AreKnown c.args.cuts.now c.args.kept.now runs) (sym (ap shared_runs c.deref.ensures.value ∙ ap (λ (r : Reply). r.runs) c.answer.view_is)) c.requires.known
+    subst (λ (runs : List (ℕ × Stream)). AreKnown c.args.known.now c.args.kept.now runs) (sym (ap shared_runs c.deref.ensures.value ∙ ap (λ (r : Reply). r.runs) c.answer.view_is)) c.requires.known
 
 pub returns-clause-renewed : goal.returns-clause-renewed
 returns-clause-renewed g c =

@@ -27,7 +27,7 @@ loop-run-init g c = record { text = left-all _ _; ends = refl; faults = refl; ke
 pub write_block-requires-clause-known : goal.write_block-requires-clause-known
 write_block-requires-clause-known g c =
     let here = drop-next c.args.runs.now c.loop-run.run-index c.run-item.result c.loop-run-test.true c.run-item.is in
-    first-known c.args.cuts.now c.loop-run.kept _ _ (subst (λ (rs : List (ℕ × Arc Stream Global)). AreKnown c.args.cuts.now c.loop-run.kept (shared_runs rs)) here c.loop-run.invariant.known)
+    first-known c.args.known.now c.loop-run.kept _ _ (subst (λ (rs : List (ℕ × Arc Stream Global)). AreKnown c.args.known.now c.loop-run.kept (shared_runs rs)) here c.loop-run.invariant.known)
 
 pub write_block-requires-clause-contract : goal.write_block-requires-clause-contract
 write_block-requires-clause-contract g c =
@@ -55,7 +55,7 @@ loop-run-preserved g c =
           ∙ (ap (λ (rs : List (ℕ × Arc Stream Global)). c.loop-run.ended && all_end (shared_runs rs)) (sym here) ∙ c.loop-run.invariant.ends));
       faults = c.in_ok-ends.ensures.faults ∙ c.loop-run.invariant.faults;
       kept = c.in_ok-ends.ensures.kept;
-      known = known-next c.args.cuts.now c.loop-run.kept _ (item.0, arc_value item.1) rest (subst (λ (rs : List (ℕ × Arc Stream Global)). AreKnown c.args.cuts.now c.loop-run.kept (shared_runs rs)) here c.loop-run.invariant.known) c.in_ok-ends.ensures.renewed;
+      known = known-next c.args.known.now c.loop-run.kept _ (item.0, arc_value item.1) rest (subst (λ (rs : List (ℕ × Arc Stream Global)). AreKnown c.args.known.now c.loop-run.kept (shared_runs rs)) here c.loop-run.invariant.known) c.in_ok-ends.ensures.renewed;
       renewed = subst (λ (rs : List (ℕ × Stream)). AreRenewed rs c.args.kept.now c.write_block.new.kept) (sym (taken-next runs i item c.loop-run-test.true c.run-item.is))
           (renewed-next c.args.kept.now c.loop-run.kept _ (item.0, arc_value item.1) (shared_runs (take i runs)) c.loop-run.invariant.renewed c.in_ok-ends.ensures.renewed);
     }

@@ -14,6 +14,6 @@ invariant-loop-run g l = record {
   ends : (l.ended && all_end (shared_runs (drop l.run-index l.runs))) ≡ all_end (shared_runs l.runs);
   faults : g.K.Sink.faults l.out ≡ g.K.Sink.faults l.fn.out;
   kept : AreWrittenWith l.names l.kept;
-  known : AreKnown l.cuts l.kept (shared_runs (drop l.run-index l.runs));
+  known : AreKnown l.known l.kept (shared_runs (drop l.run-index l.runs));
   renewed : AreRenewed (shared_runs (take l.run-index l.runs)) l.fn.kept l.kept;
 }

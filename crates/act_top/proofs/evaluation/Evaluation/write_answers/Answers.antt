@@ -14,15 +14,13 @@ use Rattle.act_model.specs.Journal.{book_of, is_known}
 use Rattle.act_model.specs.declared.journal.Line.{Line}
 use Rattle.act_model.specs.declared.journal.Step.{Step}
 use Rattle.act_model.specs.declared.journal.Step.TheVariants as step
-use Rattle.std.proofs.lemmas.List.{take_all, take_at}
-use Rattle.std.proofs.lemmas.List.Elements.{All-append, All-drop, All-take}
-use Rattle.act_text.specs.Kept.{AreWrittenWith, Lines}
+use Rattle.std.proofs.lemmas.List.{take_at}
+use Rattle.act_text.specs.Kept.{AreWrittenWith}
 use Rattle.act_top.specs.Driven.{AreLatest, IsDriven, IsQuiet}
 use Rattle.act_top.specs.Output.{items_of, too_much_asked}
 use Rattle.act_top.specs.Ready.{Evaluation}
 use Rattle.act_top.specs.Work.{ask_work, asks_work}
 use Rattle.act_top.proofs.Answering.{Answering, answering-all, answering-none, answers-are}
-use Rattle.act_refs.proofs.Turning.{written_back}
 use Rattle.act_top.specs.Known.{AreKeptAt, IsReplyOn}
 use Rattle.act_top.proofs.Known.{kept-later}
 use Rattle.act_top.proofs.Replies.{reply-on}
@@ -35,6 +33,8 @@ use Rattle.act_top.proofs.evaluation.Evaluation.write_answers.Goals.{in-Append+i
 pub loop-step-init : goal.loop-step-init
 loop-step-init g c =
     let e = c.args.self.now in
+    let of : c.deref.result.now ≡ e.portfolio = search rules in
+    let same : e.script.names.contracts ≡ e.portfolio.names.contracts = ap (λ (v : Evaluation). v.script.names.contracts) (sym c.self.view_is) ∙ (c.self.invariant.lines.contracts ∙ ap (λ (v : Evaluation). v.portfolio.names.contracts) c.self.view_is) in
     let light : too_much_asked e.portfolio (e.script.lines ∷ []) ≡ None = sym (ap (λ (v : Evaluation). too_much_asked v.portfolio (v.script.lines ∷ [])) c.self.view_is) ∙ c.self.invariant.light in
     rw c.requires (record {
       driven = driven-first e.portfolio (items_of e.script.lines);
@@ -42,7 +42,9 @@ loop-step-init g c =
       ticks = omega arith;
       counted = omega arith;
       faults = refl;
-      kept = subst (λ (names : NameLists). AreWrittenWith names c.in_ok-kept.kept.items) c.names.ensures.names c.in_ok-kept.ensures;
+      names = c.names-2.ensures.names;
+      named = omega (arith, c.in_ok-kept.ensures.few, c.named-contracts.ensures.named, ap (λ (p : Accepted). length p.names.contracts) of, ap length same);
+      kept = subst (λ (names : NameLists). AreWrittenWith names c.in_ok-kept.kept.items) c.names.ensures.names c.in_ok-kept.ensures.written;
       at = tt;
     })
 
@@ -89,35 +91,40 @@ loop-step-preserved g c =
             );
             counted = omega (arith, w.steps-is, w.work-is, c.loop-step.invariant.counted);
             faults = rw w.out-is c.loop-step.invariant.faults;
-            kept = rw w.kept-is c.loop-step.invariant.kept;
-            at = rw (w.kept-is, w.at-is)
-                (subst (λ (h : History). AreKeptAt h c.loop-step.kept.items c.loop-step.at) (sym is)
-                (kept-later c.loop-step.board after c.loop-step.kept.items c.loop-step.at refl
+            names = rw w.blocks-is c.loop-step.invariant.names;
+            named = rw w.blocks-is c.loop-step.invariant.named;
+            kept = rw w.blocks-is c.loop-step.invariant.kept;
+            at = rw (w.blocks-is, w.at-is)
+                (subst (λ (h : History). AreKeptAt h c.loop-step.blocks.kept.items c.loop-step.at) (sym is)
+                (kept-later c.loop-step.board after c.loop-step.blocks.kept.items c.loop-step.at refl
                 (ap (take (version_of c.loop-step.board)) (append-entries e.portfolio c.loop-step.board driven.quiet driven.closed entry) ∙ take_at (entries_of c.loop-step.board) (entry ∷ []) (version_of c.loop-step.board) refl)
                 c.loop-step.invariant.at));
           }
       | in-Ask+in_ok-answer-in-Ask+in_ok-ends-in-Ask w ↦
           let asked = w.in-Ask.asked in
           let told = w.in_ok-answer-in-Ask.ensures in
-          let after = w.answer.new.board in
-          let board-is : c.match-step.board ≡ after = w.board-is ∙ w.in_ok-ends-in-Ask.ensures.board in
+          let after = w.answer_with.new.board in
+          let board-is : c.match-step.board ≡ after = w.board-is in
+          let blocks = w.answer_with.new.blocks in
+          let new = w.write_now-written.new.blocks in
+          let wrote = w.in_ok-ends-in-Ask.ensures in
+          let named : blocks.names.now ≡ e.script.names = told.same.names ∙ c.loop-step.invariant.names in
           let of : w.deref-in-Ask.result.now ≡ e.portfolio = search rules in
-          let with_names : Lines → Type 0 = λ lines. lines.names ≡ e.script.names in
           let driven = driven-line e.portfolio all _ left c.step-item.result _ c.loop-step.board here w.in-Ask.is c.loop-step.invariant.driven in
           let quiet = subst (λ (p : Accepted). IsQuiet p after) of told.quiet in
           let ask : Asking = record { caller = 1; number = 1 + length (asks_by c.loop-step.board 1); version = version_of c.loop-step.board; asked = asked } in
           let reply-is = subst (λ (p : Accepted). w.in_ok-answer-in-Ask.answer ≡ answer_to p.contracts p.names (entries_of c.loop-step.board) ask) of told.answer in
           let latest = subst (λ (p : Accepted). AreLatest p after) of told.latest in
           let ticked = subst
-          (λ (p : Accepted). (book : List Obs) → take (version_of c.loop-step.board) book ≡ entries_of c.loop-step.board → w.answer.new.steps ≡ c.loop-step.steps + ask_work p book (asks_by c.loop-step.board 1) ask)
+          (λ (p : Accepted). (book : List Obs) → take (version_of c.loop-step.board) book ≡ entries_of c.loop-step.board → w.answer_with.new.steps ≡ c.loop-step.steps + ask_work p book (asks_by c.loop-step.board 1) ask)
           of told.ticked in
           let same : e.script.names.contracts ≡ e.portfolio.names.contracts = ap (λ (v : Evaluation). v.script.names.contracts) (sym c.self.view_is) ∙ (c.self.invariant.lines.contracts ∙ ap (λ (v : Evaluation). v.portfolio.names.contracts) c.self.view_is) in
           let written = answering-asked e.portfolio e.script.names e.script.lines c.loop-step.board c.step-item.result left c.loop-step.ended (g.K.Sink.written c.args.out.now) (g.K.Sink.written c.loop-step.out) now asked driven same w.in-Ask.is after w.in_ok-answer-in-Ask.answer
-          w.in_ok-ends-in-Ask.ends _ reply-is told.asked (rw w.names-names.ensures.names at w.in_ok-ends-in-Ask.ensures.text) w.in_ok-ends-in-Ask.ensures.ended in
+          w.in_ok-ends-in-Ask.ends _ reply-is told.asked (rw named at wrote.text) wrote.ended in
           record {
             driven = subst (IsDriven e.portfolio all (items_of left)) (sym board-is) (driven-ask e.portfolio all (items_of left) c.loop-step.board after asked driven quiet told.closed told.asked latest);
             answering = rw (w.out-is, w.ended-is)
-                (subst (λ (h : History). Answering e.portfolio e.script.names (book_of all) e.script.lines left (1 + length (asks_by h 1)) (version_of h) (c.loop-step.ended && w.in_ok-ends-in-Ask.ends) (g.K.Sink.written c.args.out.now) (g.K.Sink.written w.write_by_cuts-written.new.out)) (sym board-is) written);
+                (subst (λ (h : History). Answering e.portfolio e.script.names (book_of all) e.script.lines left (1 + length (asks_by h 1)) (version_of h) (c.loop-step.ended && w.in_ok-ends-in-Ask.ends) (g.K.Sink.written c.args.out.now) (g.K.Sink.written w.write_now-written.new.out)) (sym board-is) written);
             ticks = omega (
               arith,
               w.steps-is,
@@ -128,13 +135,11 @@ loop-step-preserved g c =
               ap (λ (h : History). asks_work e.portfolio (book_of all) [] (asks_by h 1)) board-is,
             );
             counted = omega (arith, w.steps-is, w.work-is, c.loop-step.invariant.counted, told.counted);
-            faults = rw w.out-is (w.in_ok-ends-in-Ask.ensures.faults ∙ c.loop-step.invariant.faults);
-            kept = rw w.kept-is (All-take with_names _ _ (All-append with_names w.write_by_cuts-written.new.kept _ (rw w.names-names.ensures.names at w.in_ok-ends-in-Ask.ensures.kept) (All-drop with_names _ c.loop-step.kept.items c.loop-step.invariant.kept)));
-            at =
-                let new = w.write_by_cuts-written.new.kept in
-                let old = c.loop-step.kept.items in
-                rw (w.kept-is, w.at-is, written_back c.loop-step.kept.len new old (w.in_ok-ends-in-Ask.ensures.count ∙ ap length w.deref_mut.ensures.value) (sym w.deref_mut.ensures.len ∙ ap length w.deref_mut.ensures.value))
-                (subst (λ (h : History). AreKeptAt h new w.write_by_cuts-written.new.at) (sym board-is) w.in_ok-ends-in-Ask.ensures.at);
+            faults = rw w.out-is (wrote.faults ∙ c.loop-step.invariant.faults);
+            names = rw w.blocks-is (wrote.names ∙ named);
+            named = rw w.blocks-is (omega (arith, wrote.count, told.same.count, c.loop-step.invariant.named));
+            kept = rw w.blocks-is (subst (λ (names : NameLists). AreWrittenWith names new.kept.items) named wrote.written);
+            at = rw (w.blocks-is, w.at-is) (subst (λ (h : History). AreKeptAt h new.kept.items w.in_ok-ends-in-Ask.version) (sym board-is) wrote.at);
           }
     ]
 
@@ -150,8 +155,8 @@ returns-in_err-answer-in-Ask-clause-text g c =
     rw (answers-are e.portfolio e.script.names (book_of (items_of e.script.lines)) e.script.lines refl)
     (writes-part c.from_residual-in_err-answer-in-Ask.result _ _ _ _ c.from_residual-in_err-answer-in-Ask.ensures.1 (stopped-part e.portfolio e.script.names (book_of (items_of e.script.lines)) e.script.lines _ _ _ _ _ _ c.loop-step.invariant.answering))
 
-pub write_by_cuts-written-requires-clause-named : goal.write_by_cuts-written-requires-clause-named
-write_by_cuts-written-requires-clause-named g c =
+pub write_now-written-requires-clause-named : goal.write_now-written-requires-clause-named
+write_now-written-requires-clause-named g c =
     let e = c.args.self.now in
     let i = c.loop-step.step-index in
     let all = items_of e.script.lines in
@@ -169,16 +174,17 @@ write_by_cuts-written-requires-clause-named g c =
     let this : is_known e.script.names (step.Ask asked) ≡ true =
     subst (λ (t : Step). is_known e.script.names t ≡ true) c.in-Ask.is (subst (λ (line : Line). is_known e.script.names line.step ≡ true) (sym item_is) (all-known i c.step-item.result within)) in
     let known : is_known e.portfolio.names (step.Ask asked) ≡ true = sym (known-same e.script.names e.portfolio.names asked same) ∙ this in
-    subst (λ (ids : List (List ℕ)). All (λ (run : ℕ × Stream). run.0 < length ids) c.in_ok-answer-in-Ask.answer.runs) (sym c.names-names.ensures.contracts)
+    let named : c.answer_with.new.blocks.names.now ≡ e.script.names = c.in_ok-answer-in-Ask.ensures.same.names ∙ c.loop-step.invariant.names in
+    subst (λ (ids : List (List ℕ)). All (λ (run : ℕ × Stream). run.0 < length ids) c.in_ok-answer-in-Ask.answer.runs) (sym (ap (λ (n : NameLists). n.contracts) named ∙ same))
     (subst (λ (r : Reply). All (λ (run : ℕ × Stream). run.0 < length e.portfolio.names.contracts) r.runs) (sym reply-is) (reply-named e.portfolio.contracts e.portfolio.names (entries_of c.loop-step.board) ask known))
 
-pub write_by_cuts-written-requires-clause-reply : goal.write_by_cuts-written-requires-clause-reply
-write_by_cuts-written-requires-clause-reply g c =
+pub write_now-written-requires-clause-reply : goal.write_now-written-requires-clause-reply
+write_now-written-requires-clause-reply g c =
     let e = c.args.self.now in
     let of : c.deref-in-Ask.result.now ≡ e.portfolio = search rules in
     let told = c.in_ok-answer-in-Ask.ensures in
     let before = c.loop-step.board in
-    let after = c.answer.new.board in
+    let after = c.answer_with.new.board in
     let quiet = subst (λ (p : Accepted). IsQuiet p after) of told.quiet in
     let ask : Asking = record { caller = 1; number = 1 + length (asks_by before 1); version = version_of before; asked = c.in-Ask.asked } in
     let reply-is = subst (λ (p : Accepted). c.in_ok-answer-in-Ask.answer ≡ answer_to p.contracts p.names (entries_of before) ask) of told.answer in
@@ -187,23 +193,21 @@ write_by_cuts-written-requires-clause-reply g c =
     ∙ (ap (λ (entries : List Obs). answer_to e.portfolio.contracts e.portfolio.names entries ask) told.asked.entries ∙ sym reply-is))
     (reply-on after e.portfolio.names ask (omega (arith, ap length told.asked.entries)))
 
-pub write_by_cuts-written-requires-clause-at : goal.write_by_cuts-written-requires-clause-at
-write_by_cuts-written-requires-clause-at g c =
+pub write_now-written-requires-clause-version : goal.write_now-written-requires-clause-version
+write_now-written-requires-clause-version g c =
     let e = c.args.self.now in
-    let i = c.loop-step.step-index in
-    let left = drop (i + 1) e.script.lines in
-    let lines_are : c.deref-step-items.result.now ≡ e.script.lines = search rules in
-    let within : i < length e.script.lines = omega (arith, c.loop-step-test.true, ap length lines_are) in
-    let here = drop-next e.script.lines i c.step-item.result within (c.step-item.is ∙ ap (λ (ls : List Line). get_or ls i c.step-item.result) lines_are) in
     let of : c.deref-in-Ask.result.now ≡ e.portfolio = search rules in
     let told = c.in_ok-answer-in-Ask.ensures in
     let before = c.loop-step.board in
-    let after = c.answer.new.board in
-    let driven = driven-line e.portfolio (items_of e.script.lines) _ left c.step-item.result _ before here c.in-Ask.is c.loop-step.invariant.driven in
-    let quiet = subst (λ (p : Accepted). IsQuiet p after) of told.quiet in
-    let goes_on : take (version_of before) (entries_of after) ≡ entries_of before = ap (take (version_of before)) told.asked.entries ∙ take_all (version_of before) (entries_of before) (omega arith) in
-    subst (λ (lines : List Lines). AreKeptAt after lines c.loop-step.at) (sym c.deref_mut.ensures.value)
-    (kept-later before after c.loop-step.kept.items c.loop-step.at (quiet.portfolio ∙ sym driven.quiet.portfolio) goes_on c.loop-step.invariant.at)
+    let ask : Asking = record { caller = 1; number = 1 + length (asks_by before 1); version = version_of before; asked = c.in-Ask.asked } in
+    let reply-is = subst (λ (p : Accepted). c.in_ok-answer-in-Ask.answer ≡ answer_to p.contracts p.names (entries_of before) ask) of told.answer in
+    ap (λ (r : Reply). r.version) reply-is ∙ sym (ap length told.asked.entries)
+
+pub answer_with-requires-clause-named : goal.answer_with-requires-clause-named
+answer_with-requires-clause-named g c = omega (arith, c.loop-step.invariant.named, ap (λ (n : NameLists). length n.contracts) c.loop-step.invariant.names)
+
+pub answer_with-requires-clause-written : goal.answer_with-requires-clause-written
+answer_with-requires-clause-written g c = subst (λ (names : NameLists). AreWrittenWith names c.loop-step.blocks.kept.items) (sym c.loop-step.invariant.names) c.loop-step.invariant.kept
 
 pub returns-in_err-ends-in-Ask-clause-text : goal.returns-in_err-ends-in-Ask-clause-text
 returns-in_err-ends-in-Ask-clause-text g c =
@@ -222,7 +226,7 @@ returns-in_err-ends-in-Ask-clause-text g c =
     let same : e.script.names.contracts ≡ e.portfolio.names.contracts = ap (λ (v : Evaluation). v.script.names.contracts) (sym c.self.view_is) ∙ (c.self.invariant.lines.contracts ∙ ap (λ (v : Evaluation). v.portfolio.names.contracts) c.self.view_is) in
     let driven = driven-line e.portfolio all _ left c.step-item.result _ c.loop-step.board here c.in-Ask.is c.loop-step.invariant.driven in
     let part = answered-part e.portfolio e.script.names e.script.lines c.loop-step.board c.step-item.result left c.loop-step.ended (g.K.Sink.written c.args.out.now) (g.K.Sink.written c.loop-step.out) now asked driven same c.in-Ask.is
-    c.in_err-ends-in-Ask.field-0.0 c.in_ok-answer-in-Ask.answer _ reply-is (rw c.names-names.ensures.names at c.in_err-ends-in-Ask.ensures.text) in
+    c.in_err-ends-in-Ask.field-0.0 c.in_ok-answer-in-Ask.answer _ reply-is (rw (c.in_ok-answer-in-Ask.ensures.same.names ∙ c.loop-step.invariant.names) at c.in_err-ends-in-Ask.ensures.text) in
     rw (answers-are e.portfolio e.script.names (book_of all) e.script.lines refl) (writes-part c.from_residual-in_err-ends-in-Ask.result _ _ _ _ c.from_residual-in_err-ends-in-Ask.ensures.1 part)
 
 pub returns-clause-text : goal.returns-clause-text

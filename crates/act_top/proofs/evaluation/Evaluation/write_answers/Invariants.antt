@@ -1,4 +1,4 @@
-use Rattle.std.proofs.Common.{◌≡◌, ◌+◌, [], drop, length}
+use Rattle.std.proofs.Common.{◌≡◌, ◌≤◌, ◌+◌, [], drop, length}
 use Rattle.act_board.specs.History.{asks_by, version_of}
 use Rattle.act_model.specs.Journal.{book_of}
 use Rattle.act_text.specs.Kept.{AreWrittenWith}
@@ -17,6 +17,8 @@ invariant-loop-step g l = record {
   ticks : l.steps ≡ l.fn.steps + asks_work l.self.portfolio (book_of (items_of l.self.script.lines)) [] (asks_by l.board 1);
   counted : l.work + l.fn.steps ≡ l.fn.work + l.steps;
   faults : g.K.Sink.faults l.out ≡ g.K.Sink.faults l.fn.out;
-  kept : AreWrittenWith l.self.script.names l.kept.items;
-  at : AreKeptAt l.board l.kept.items l.at;
+  names : l.blocks.names.now ≡ l.self.script.names;
+  named : length l.blocks.kept.items ≤ length l.self.script.names.contracts;
+  kept : AreWrittenWith l.self.script.names l.blocks.kept.items;
+  at : AreKeptAt l.board l.blocks.kept.items l.at;
 }
