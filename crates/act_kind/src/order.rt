@@ -1,5 +1,5 @@
 //! The order of events, and which of them count.
-ghost use Rattle.std.specs.Prelude.{◌≡◌, ◌≤◌, ◌&&◌, not, List, false, length, take, IfOk, IfErr};
+ghost use Rattle.std.specs.Prelude.{◌≡◌, ◌≤◌, ◌<◌, ◌&&◌, ℕ, not, List, true, false, get_or, length, take, IfOk, IfErr};
 ghost use Rattle.std.specs.List.{AllPairs, filter, find, list_any, prefix_len};
 ghost use Rattle.std.specs.List.Sorted.{IsPermutation, IsStableBy};
 ghost use Rattle.std.specs.Ordering.{is_lt};
@@ -110,7 +110,7 @@ pub fn counting<'a>(terms: &Terms, plan: &'a Plan) -> &'a [Event]
     &until_end[count_early(terms.common.status_date, &terms.kind, until_end)..]
 }
 
-/// How many events of a plan in order there are up to the first that ends the contract, with it. It is found by halving.
+/// How many events of a plan in order there are up to the first that ends the contract, with it.
 fn count_to_planned_end(kind: &Kind, plan: &Plan) -> usize
     requires { in_order plan.now.events ≡ plan.now.events }
     ensures taken { take result plan.now.events ≡ up_to_end kind.now plan.now.events }
@@ -118,11 +118,26 @@ fn count_to_planned_end(kind: &Kind, plan: &Plan) -> usize
 {
     match first_end(kind, plan.ends()) {
         Some(end) => {
-            let before = plan.events.partition_point(|event| precedes(event, &end));
+            let before = count_preceding(&plan.events, &end);
             before + count_to_end(kind, &plan.events[before..])
         }
         None => plan.events.len(),
     }
+}
+
+/// So many of the first events in order come before an end: all but the last where the last but one does, as mostly, and else
+/// those that are found by halving.
+fn count_preceding(events: &[Event], end: &Event) -> usize
+    requires { in_order events.now ≡ events.now }
+    ensures before { (place : ℕ) (other : Event) → place < result → precedes (get_or events.now place other) end.now ≡ true }
+    ensures within { result ≤ length events.now }
+{
+    if let Some(last_but_one) = events.len().checked_sub(2) {
+        if precedes(&events[last_but_one], end) {
+            return last_but_one + 1;
+        }
+    }
+    events.partition_point(|event| precedes(event, end))
 }
 
 /// The first of some events that ends the contract.

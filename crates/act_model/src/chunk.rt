@@ -42,13 +42,13 @@ impl Chunk {
         }
     }
 
-    /// No rows, and room for so many.
-    pub(crate) fn with_capacity(alloc: Global, room: usize) -> Result<Chunk, NoMemory>
+    /// No rows, and room for so many behind these, which are likely to share as much.
+    pub(crate) fn next(&self, alloc: Global, room: usize) -> Result<Chunk, NoMemory>
         ensures { IfOk result (λ chunk. chunk ≡ []) }
     {
         Ok(Chunk {
             rows: Vec::with_capacity(alloc, room)?,
-            shared: Shared::new(alloc),
+            shared: self.shared.next(alloc, room)?,
         })
     }
 

@@ -185,7 +185,7 @@ fn close_chunk(
     }
     let alloc = *full.allocator();
     full.reserve(1)?;
-    let next = Chunk::with_capacity(alloc, room_behind(room, full.len() + 1))?;
+    let next = last.next(alloc, room_behind(room, full.len() + 1))?;
     match Arc::new(alloc, mem::replace(last, next)) {
         Ok(chunk) => {
             let Ok(()) = full.push(chunk) else {

@@ -211,6 +211,18 @@ impl Shared {
         }
     }
 
+    /// Nothing yet, with room for as many levels as these are, or as so many rows can have. Behind rows of a single one there is
+    /// mostly no second.
+    pub(crate) fn next(&self, alloc: Global, rows: usize) -> Result<Shared, NoMemory> {
+        let count = self.levels.len();
+        let room = if count > 1 { count.min(rows) } else { 0 };
+        Ok(Shared {
+            rests: Vec::new(alloc),
+            levels: Vec::with_capacity(alloc, room)?,
+            long: Vec::new(alloc),
+        })
+    }
+
     /// What some rows need of it, copied. What only rows behind them had is left out, so that places stay few.
     pub(crate) fn needed(&self, alloc: Global, slims: &[Slim]) -> Result<Shared, NoMemory>
         requires { All (HasParts self.now) slims.now }
@@ -354,8 +366,8 @@ fn place_rest(rests: &mut Vec<Rest>, state: &State) -> Result<u8, NoMemory>
     if count > 0 && rests[count - 1].is_of(state) {
         return numbered(count - 1);
     }
-    // These are large, and seldom more than two.
-    added(rests, Rest::of(state), count.max(1))
+    // Each is large, and there are seldom more than two.
+    added(rests, Rest::of(state), count.max(2))
 }
 
 /// The place of a level, which is added unless it is the last one.

@@ -9,6 +9,9 @@ use crate::limit::{comes_before, stop_day};
 use act_date::Day;
 use act_model::{Row, Rows, Run};
 
+/// How many rows from the end the first look is.
+const LATE: usize = 16;
+
 /// Whether the whole run is kept under a cut: there is none, or the run stops before it.
 pub fn is_kept_whole(run: &Run, cut: Option<Day>) -> bool
     ensures whole { result ≡ true → kept_of run.now cut ≡ kept_by run.now None }
@@ -46,7 +49,8 @@ pub(crate) fn kept_count(run: &Run, cut: Option<Day>) -> Option<usize>
     }
 }
 
-/// How many rows are dated before a day, where they stand by their days: a binary search.
+/// How many rows are dated before a day, where they stand by their days: a binary search, which looks first near the end, since
+/// mostly late entries are corrected.
 fn count_before(rows: &Rows, day: Day) -> usize
     requires { AreInDayOrder rows.now }
     ensures count { filter (λ row. int_lt row.day day) rows.now ≡ take result rows.now }
@@ -54,13 +58,14 @@ fn count_before(rows: &Rows, day: Day) -> usize
 {
     let mut from = 0;
     let mut to = rows.count();
+    let mut look = to.saturating_sub(LATE);
     'rows: while from < to {
-        let middle = from + (to - from) / 2;
-        if is_before(&rows.row(middle), day) {
-            from = middle + 1;
+        if is_before(&rows.row(look), day) {
+            from = look + 1;
         } else {
-            to = middle;
+            to = look;
         }
+        look = from + (to - from) / 2;
     }
     from
 }

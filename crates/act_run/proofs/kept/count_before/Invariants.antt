@@ -1,4 +1,4 @@
-use Rattle.std.proofs.Common.{◌-◌, ◌≤◌}
+use Rattle.std.proofs.Common.{◌-◌, ◌<◌, ◌≤◌}
 use Rattle.act_run.proofs.FirstRows.{AllBefore, NoneBehind}
 use Rattle.act_run.proofs.kept.count_before.Given as goal
 
@@ -6,6 +6,8 @@ use Rattle.act_run.proofs.kept.count_before.Given as goal
 abbrev pub invariant-rows : goal.invariant-rows
 invariant-rows l = record {
   order : l.from ≤ l.to;
+  from : l.from ≤ l.look;
+  to : l.from < l.to → l.look < l.to;
   first : AllBefore l.day l.rows l.from;
   none : NoneBehind l.day l.rows l.to;
 }
