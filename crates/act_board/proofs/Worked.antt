@@ -49,6 +49,6 @@ pub whole-run : (run kept : Stream) (cut : Option ℤ) → GoesOnFrom run kept c
 whole-run run kept cut goes whole = whole_is run kept cut (sym whole ∙ goes.same)
 
 -- ticks, counted by the run that was meant
-pub counted : (r : Result Stream NoMemory) (run : Stream) (n m : ℕ) → IfOk r (λ s. s ≡ run) → IfOk r (λ s. n ≡ m + length s.rows) → IfOk r (λ s. n ≡ m + length run.rows)
-counted (Ok s) run n m is ticks = ticks ∙ ap (λ (r : Stream). m + length r.rows) is
-counted (Err e) run n m is ticks = tt
+pub counted : {A : Type 0} (of : A → Stream) (r : Result A NoMemory) (run : Stream) (n m : ℕ) → IfOk r (λ s. of s ≡ run) → IfOk r (λ s. n ≡ m + length (of s).rows) → IfOk r (λ s. n ≡ m + length run.rows)
+counted of (Ok s) run n m is ticks = ticks ∙ ap (λ (r : Stream). m + length r.rows) is
+counted of (Err e) run n m is ticks = tt

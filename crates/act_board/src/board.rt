@@ -382,7 +382,7 @@ impl Board {
     }
 
     /// Gives a caller the answer to the oldest of its asks that are open, once each contract that it asks for has a result, and
-    /// drops runs that nobody can ask for any more. Memory can run out only where it has.
+    /// drops runs that nobody can ask for any more. Memory can run out only where each of these contracts has a result.
     pub fn collect(&mut self, caller: u32) -> Result<Collected, NoMemory>
         requires present { IsPresent self.old caller }
         requires asked { 0 < length (open_asks self.old caller) }

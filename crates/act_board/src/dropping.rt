@@ -7,11 +7,14 @@ use crate::pair::{Pair, Progress, is_done};
 use act_model::Asking;
 use std::collections::VecDeque;
 
-/// Drops the runs of pairs, from a place on, as long as these are of versions before one that no open ask is of. It answers
-/// where it stopped.
+/// Drops the runs of pairs, from a place on, as long as these are of versions before a given one and before those of all open asks.
+/// It answers where it stopped.
 pub(crate) fn drop_runs(pairs: &mut [Pair], from: usize, callers: &[Caller], version: u64) -> usize
     ensures { Drops pairs.old callers.now version pairs.new }
 {
+    if from >= pairs.len() || !is_before(&pairs[from], version) {
+        return from;
+    }
     let least = least_open(callers, version);
     let mut place = from;
     while place < pairs.len() && is_before(&pairs[place], least) {

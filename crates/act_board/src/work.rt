@@ -6,7 +6,7 @@ use act_date::Day;
 use act_model::{Observed, Run};
 use act_num::{NoMemory, Steps};
 use act_portfolio::Portfolio;
-use act_run::{evaluate, is_kept_whole, kept_rows, resume};
+use act_run::{evaluate, is_kept_whole, kept_rows, resume_shared};
 use std::alloc::Global;
 use std::marker::Model;
 use std::snapshot::Snapshot;
@@ -88,7 +88,7 @@ impl Task {
     }
 
     /// Makes the evaluation: the contract's run as from inception, children first. It ticks once for each row that wasn't kept of
-    /// the contract's latest result. Where all of that is kept it isn't copied.
+    /// the contract's latest result. Where that is kept whole, or ended before the cut with nothing to add, it isn't copied.
     /// For want of memory the task comes back as it was; `steps` may have ticked by then.
     pub fn work<L: Ledger>(
         self,
@@ -133,7 +133,7 @@ impl Task {
         })
     }
 
-    /// The contract's run: the latest result itself, where all of it is kept.
+    /// The contract's run. It goes on from the latest result, where there is one.
     fn run<L: Ledger>(
         &self,
         alloc: Global,
@@ -146,14 +146,7 @@ impl Task {
         ensures ticked { IfOk result (λ _. steps.new + length self.now.kept.rows ≡ steps.old + length (outcome self.now).rows) }
     {
         match &self.cached.run {
-            Some(kept) => {
-                if is_kept_whole(kept, self.cached.cut) {
-                    Ok(Arc::try_clone(kept)?)
-                } else {
-                    let run = self.resumed(alloc, portfolio, kept, self.cached.cut, steps)?;
-                    Ok(Arc::new(alloc, run)?)
-                }
-            }
+            Some(kept) => self.resumed(alloc, portfolio, kept, self.cached.cut, steps),
             None => {
                 let run = self.evaluated(alloc, portfolio, steps)?;
                 Ok(Arc::new(alloc, run)?)
@@ -161,24 +154,25 @@ impl Task {
         }
     }
 
-    /// The contract's run, which goes on from what is kept of another.
+    /// The contract's run, which goes on from what is kept of another. Where that is kept whole, or ended before the cut with nothing
+    /// to add, it is that one.
     fn resumed<L: Ledger>(
         &self,
         alloc: Global,
         portfolio: &Portfolio,
-        kept: &Run,
+        kept: &Arc<Run, Global>,
         cut: Option<Day>,
         steps: &mut Steps<L>,
-    ) -> Result<Run, NoMemory>
+    ) -> Result<Arc<Run, Global>, NoMemory>
         requires portfolio { portfolio.now ≡ self.now.portfolio }
-        requires kept { GoesOnFrom (outcome self.now) kept.now cut }
-        ensures run { IfOk result (λ run. run ≡ outcome self.now) }
-        ensures in_day_order { IfOk result (λ run. AreInDayOrder run.rows) }
-        ensures ticked { IfOk result (λ _. steps.new + length (kept_of kept.now cut).rows ≡ steps.old + length (outcome self.now).rows) }
+        requires kept { GoesOnFrom (outcome self.now) (arc_value kept.now) cut }
+        ensures run { IfOk result (λ run. arc_value run ≡ outcome self.now) }
+        ensures in_day_order { IfOk result (λ run. AreInDayOrder (arc_value run).rows) }
+        ensures ticked { IfOk result (λ _. steps.new + length (kept_of (arc_value kept.now) cut).rows ≡ steps.old + length (outcome self.now).rows) }
     {
         let terms = &portfolio.terms()[self.contract as usize];
         let plan = portfolio.plan(self.contract);
-        resume(
+        resume_shared(
             alloc,
             terms,
             plan,

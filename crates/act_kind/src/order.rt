@@ -125,8 +125,8 @@ fn count_to_planned_end(kind: &Kind, plan: &Plan) -> usize
     }
 }
 
-/// So many of the first events in order come before an end: all but the last where the last but one does, as mostly, and else
-/// those that are found by halving.
+/// How many of the first events are found to come before an end: all but the last where the last but one does, as it mostly does;
+/// else by halving.
 fn count_preceding(events: &[Event], end: &Event) -> usize
     requires { in_order events.now ≡ events.now }
     ensures before { (place : ℕ) (other : Event) → place < result → precedes (get_or events.now place other) end.now ≡ true }

@@ -211,14 +211,11 @@ impl Shared {
         }
     }
 
-    /// Nothing yet, with room for as many levels as these are, or as so many rows can have. Behind rows of a single one there is
-    /// mostly no second.
+    /// Nothing yet, with room for as many levels as there are here, at most `rows`.
     pub(crate) fn next(&self, alloc: Global, rows: usize) -> Result<Shared, NoMemory> {
-        let count = self.levels.len();
-        let room = if count > 1 { count.min(rows) } else { 0 };
         Ok(Shared {
             rests: Vec::new(alloc),
-            levels: Vec::with_capacity(alloc, room)?,
+            levels: Vec::with_capacity(alloc, self.levels.len().min(rows))?,
             long: Vec::new(alloc),
         })
     }

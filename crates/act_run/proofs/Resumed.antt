@@ -1,10 +1,12 @@
 -- A run that goes on from its first rows.
-use Rattle.std.proofs.Common.{◌≡◌, ℕ, zero, suc, ◌≤◌, ℤ, List, [], ◌∷◌, length, take, drop, slice_get, Option, Some, Result, Ok, Err, refl, sym, ap, subst, ◌∙◌, arith}
+use Rattle.std.proofs.Common.{◌≡◌, ℕ, zero, suc, ◌≤◌, ℤ, List, [], ◌∷◌, ◌++◌, length, take, drop, slice_get, Option, Some, None, Result, Ok, Err, refl, sym, ap, subst, ◌∙◌, append-nil, take_all, arith}
 use Rattle.act_model.specs.declared.event.Event.{Event}
+use Rattle.act_model.specs.declared.run.Close.{Close}
+use Rattle.act_model.specs.declared.run.Close.TheVariants.{End}
 use Rattle.act_model.specs.declared.run.Row.{Row}
 use Rattle.act_model.specs.declared.run.Stop.{Stop}
 use Rattle.act_model.specs.declared.state.State.{State}
-use Rattle.std.proofs.lemmas.List.{length-take-le}
+use Rattle.std.proofs.lemmas.List.{drop_all, length-take-le}
 use Rattle.act_model.specs.Run.{EventPlan, Stream}
 use Rattle.act_model.specs.declared.observed.Obs.{Obs}
 use Rattle.act_model.specs.declared.terms.Terms.{Terms}
@@ -13,7 +15,7 @@ use Rattle.act_profile.specs.Run.{row_of, rows_from, run_over, with_row}
 use Rattle.act_profile.specs.Steps.{currency_of, start_of, step_of}
 use Rattle.act_profile.specs.Stops.{chosen_close}
 use Rattle.act_run.specs.Limits.{before_limit, closed_by, limit_of}
-use Rattle.act_run.specs.Resuming.{BeginsWith, state_behind, state_or_start, with_rows}
+use Rattle.act_run.specs.Resuming.{BeginsWith, IsOver, state_behind, state_or_start, with_rows}
 use Rattle.act_run.specs.declared.limit.Limit.{Limit}
 use Rattle.act_run.proofs.Limited.{closed_by_rows, rows_over, run_by_rows, run_stopped}
 use Rattle.act_run.proofs.TakenRows.{Step, rows_of_cons, taken_rows}
@@ -153,3 +155,31 @@ pub begun : (terms : Terms) (plan : EventPlan) (entries : List Obs) (children : 
     → state_or_start (start_of terms plan) rows ≡ Ok state → IsBegun (start_of terms plan) rows state
 begun terms plan entries children rows state begins is =
     begun_by (start_of terms plan) rows state (λ stop stops. no_first terms plan entries children stop rows stops begins) is
+
+-- ---- a run that is over
+
+-- so where its rows are all of a run's, and it ended behind them, it is that run
+over_by : (terms : Terms) (plan : EventPlan) (entries : List Obs) (children : List Stream) (run : Stream) (count : ℕ) (limit : Option Limit) (events : List Event) (start : Result State Stop) → start_of terms plan ≡ start
+    → limit ≡ limit_of terms.common terms.kind entries (chosen_close children) → events ≡ events_of terms plan entries children → BeginsWith (run_over terms plan entries children) (take count run.rows)
+    → IsOver run count limit events → run ≡ run_over terms plan entries children
+unfolding rows_from
+over_by terms plan entries children run count limit events (Ok first) starts is are begins over =
+    let over_left = λ (state : State) (rows : List Row) (l : Option Limit) (left : List Event). closed_by l (with_rows rows (rows_over terms plan entries children state left)) in
+    let rows = take count run.rows in
+    let all : rows ≡ run.rows = take_all count run.rows (omega (arith, over.all)) in
+    let state = state_behind first rows in
+    let none : drop count (before_limit None events) ≡ [] = drop_all count events (omega (arith, over.each)) in
+    let same : over_left state rows limit (drop count (before_limit limit events)) ≡ run_over terms plan entries children =
+    resumed_run terms plan entries children first limit events run.rows count rows state (before_limit limit events) (drop count (before_limit limit events)) _ starts is are begins (omega (arith, over.all)) refl refl refl refl refl in
+    let ended : run ≡ over_left state rows None [] =
+    ap (λ (c : Close). record { rows = run.rows; close = c }) over.ended
+    ∙ ap (λ (r : List Row). record { rows = r; close = End }) (sym (append-nil run.rows) ∙ ap (λ (r : List Row). r ++ []) (sym all)) in
+    ended ∙ ap (over_left state rows None) (sym none) ∙ ap (λ (l : Option Limit). over_left state rows l (drop count (before_limit l events))) (sym over.unstopped) ∙ same
+over_by terms plan entries children run count limit events (Err stop) starts is are begins over =
+    let zero_of : count ≡ 0 = none_first terms plan entries children stop run.rows count starts begins (omega (arith, over.all)) in
+    absurd (omega (arith, over.some, zero_of))
+
+pub over_is : (terms : Terms) (plan : EventPlan) (entries : List Obs) (children : List Stream) (run : Stream) (count : ℕ) (limit : Option Limit) (events : List Event)
+    → limit ≡ limit_of terms.common terms.kind entries (chosen_close children) → events ≡ events_of terms plan entries children → BeginsWith (run_over terms plan entries children) (take count run.rows)
+    → IsOver run count limit events → run ≡ run_over terms plan entries children
+over_is terms plan entries children run count limit events is are begins over = over_by terms plan entries children run count limit events (start_of terms plan) refl is are begins over

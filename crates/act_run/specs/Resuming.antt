@@ -1,15 +1,18 @@
 -- A run that goes on from rows that are kept of another. This profile's own.
-use Rattle.std.specs.Prelude.{◌≡◌, ◌≤ℤ◌, ℕ, ℤ, List, [], ◌∷◌, ◌++◌, length, max, min, take, Option, Some, None, Result, Ok}
+use Rattle.std.specs.Prelude.{◌≡◌, ◌<◌, ◌≤ℤ◌, ℕ, ℤ, List, [], ◌∷◌, ◌++◌, length, max, min, take, Option, Some, None, Result, Ok}
 use Rattle.std.specs.List.{filter}
 use Rattle.act_date.specs.Civil.{last_day}
 use Rattle.act_model.specs.Run.{Stream}
+use Rattle.act_model.specs.declared.event.Event.{Event}
 use Rattle.act_model.specs.declared.observed.Obs.{Obs}
+use Rattle.act_model.specs.declared.run.Close.TheVariants.{End}
 use Rattle.act_model.specs.declared.run.Row.{Row}
 use Rattle.act_model.specs.declared.run.Stop.{Stop}
 use Rattle.act_model.specs.declared.state.State.{State}
 use Rattle.act_profile.specs.Kept.{KeptRows, kept_of}
 use Rattle.act_profile.specs.Reads.{codes_read, contracts_read, cut_of, touches}
 use Rattle.act_profile.specs.Run.{Contracts, deepest, run_of}
+use Rattle.act_run.specs.declared.limit.Limit.{Limit}
 use Rattle.act_causality.specs.Causality.{AgreeBefore, IsLinked, IsWithinDepth}
 
 -- ---- going on
@@ -31,6 +34,14 @@ state_or_start start (row ∷ rows) = Ok (state_behind row.state rows)
 -- these rows are the first of a run
 pub record BeginsWith (run : Stream) (rows : List Row) : Type 0 where
   pub first : take (length rows) run.rows ≡ rows
+
+-- a run has rows, all of which are kept, so many, one for each of the events that count, and ended behind them; nothing stops it
+pub record IsOver (run : Stream) (count : ℕ) (limit : Option Limit) (events : List Event) : Type 0 where
+  pub unstopped : limit ≡ None
+  pub ended : run.close ≡ End
+  pub some : 0 < count
+  pub each : count ≡ length events
+  pub all : count ≡ length run.rows
 
 -- what is kept of a run: its first rows, so many, or the whole of it
 abbrev pub kept_by : Stream → Option ℕ → KeptRows

@@ -9,7 +9,7 @@ use crate::limit::{comes_before, stop_day};
 use act_date::Day;
 use act_model::{Row, Rows, Run};
 
-/// How many rows from the end the first look is.
+/// How far from the end, in rows, the first look is.
 const LATE: usize = 16;
 
 /// Whether the whole run is kept under a cut: there is none, or the run stops before it.
@@ -50,7 +50,7 @@ pub(crate) fn kept_count(run: &Run, cut: Option<Day>) -> Option<usize>
 }
 
 /// How many rows are dated before a day, where they stand by their days: a binary search, which looks first near the end, since
-/// mostly late entries are corrected.
+/// mostly only the last rows change.
 fn count_before(rows: &Rows, day: Day) -> usize
     requires { AreInDayOrder rows.now }
     ensures count { filter (λ row. int_lt row.day day) rows.now ≡ take result rows.now }

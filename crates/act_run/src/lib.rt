@@ -13,4 +13,4 @@ pub use laws::{
     runs_are_kept_between_versions, runs_before_a_change_are_kept,
     what_is_dated_before_a_change_stays, what_is_not_read_does_not_matter,
 };
-pub use run::{evaluate, resume};
+pub use run::{evaluate, resume, resume_shared};

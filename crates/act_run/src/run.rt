@@ -1,5 +1,5 @@
 //! The run of a contract.
-ghost use Rattle.std.specs.Prelude.{◌≡◌, ◌+◌, ◌≤◌, drop, int_lt, length, map, take, Ok, IfOk};
+ghost use Rattle.std.specs.Prelude.{◌≡◌, ◌+◌, ◌≤◌, drop, int_lt, length, map, take, true, Ok, IfOk};
 ghost use Rattle.std.specs.Arc.{arc_value};
 ghost use Rattle.std.specs.List.{prefix_len};
 ghost use Rattle.act_profile.specs.Built.{IsBuilt};
@@ -7,8 +7,9 @@ ghost use Rattle.act_profile.specs.Events.{events_of};
 ghost use Rattle.act_profile.specs.Kept.{kept_of};
 ghost use Rattle.act_profile.specs.Plan.{plan_of};
 ghost use Rattle.act_profile.specs.Run.{run_over};
-ghost use Rattle.act_run.specs.Limits.{before_limit, closed_by};
-ghost use Rattle.act_run.specs.Resuming.{BeginsWith};
+ghost use Rattle.act_profile.specs.Stops.{chosen_close};
+ghost use Rattle.act_run.specs.Limits.{before_limit, closed_by, limit_of};
+ghost use Rattle.act_run.specs.Resuming.{BeginsWith, IsOver};
 ghost use Rattle.act_swap.specs.Children.{AreInDayOrder, RunsAreInDayOrder};
 
 use crate::events::{events_of, observed_as, planned_events};
@@ -82,6 +83,76 @@ pub fn resume<O: Observed, L: Ledger>(
     }
 }
 
+/// The same from a run that is shared. Where it is the run wanted itself, kept whole or ended before the cut, it is shared and
+/// not copied.
+pub fn resume_shared<O: Observed, L: Ledger>(
+    alloc: Global,
+    terms: &Terms,
+    plan: &Plan,
+    children: &[Arc<Run, Global>],
+    kept: &Arc<Run, Global>,
+    cut: Option<Day>,
+    seen: &O,
+    steps: &mut Steps<L>,
+) -> Result<Arc<Run, Global>, NoMemory>
+    requires built { IsBuilt terms.now.kind }
+    requires plan { plan_of terms.now ≡ Ok plan.now }
+    requires children { RunsAreInDayOrder (map arc_value children.now) }
+    requires kept_in_day_order { AreInDayOrder (arc_value kept.now).rows }
+    requires kept { kept_of (arc_value kept.now) cut ≡ kept_of (run_over terms.now plan.now (O.entries seen.now) (map arc_value children.now)) cut }
+    ensures run { IfOk result (λ run. arc_value run ≡ run_over terms.now plan.now (O.entries seen.now) (map arc_value children.now)) }
+    ensures in_day_order { IfOk result (λ run. AreInDayOrder (arc_value run).rows) }
+    ensures ticked { IfOk result (λ run. steps.new + length (kept_of (arc_value kept.now) cut).rows ≡ steps.old + length (arc_value run).rows) }
+{
+    match kept_count(kept, cut) {
+        Some(count) => shared_behind(alloc, terms, plan, children, kept, count, seen, steps),
+        None => Ok(Arc::try_clone(kept)?),
+    }
+}
+
+/// The run of a contract, whose first rows, so many, are those of a shared run.
+fn shared_behind<O: Observed, L: Ledger>(
+    alloc: Global,
+    terms: &Terms,
+    plan: &Plan,
+    children: &[Arc<Run, Global>],
+    kept: &Arc<Run, Global>,
+    count: usize,
+    seen: &O,
+    steps: &mut Steps<L>,
+) -> Result<Arc<Run, Global>, NoMemory>
+    requires built { IsBuilt terms.now.kind }
+    requires plan { plan_of terms.now ≡ Ok plan.now }
+    requires children { RunsAreInDayOrder (map arc_value children.now) }
+    requires within { count ≤ length (arc_value kept.now).rows }
+    requires same { BeginsWith (run_over terms.now plan.now (O.entries seen.now) (map arc_value children.now)) (take count (arc_value kept.now).rows) }
+    ensures run { IfOk result (λ run. arc_value run ≡ run_over terms.now plan.now (O.entries seen.now) (map arc_value children.now)) }
+    ensures in_day_order { IfOk result (λ run. AreInDayOrder (arc_value run).rows) }
+    ensures ticked { IfOk result (λ run. steps.new + count ≡ steps.old + length (arc_value run).rows) }
+{
+    let mut made = Vec::new(alloc);
+    let events = events_to_run(alloc, terms, plan, children, seen, &mut made)?;
+    let limit = limit_of(alloc, terms, children, seen)?;
+    if is_over(kept, count, &limit, events) {
+        return Ok(Arc::try_clone(kept)?);
+    }
+    let run = run_of_events(
+        alloc, terms, plan, children, &kept.rows, count, &limit, events, seen, steps,
+    )?;
+    Ok(Arc::new(alloc, run)?)
+}
+
+/// Whether a run has rows, all of which are kept, one for each of the events that count, and ended behind them.
+fn is_over(kept: &Run, count: usize, limit: &Option<Limit>, events: &[Event]) -> bool
+    ensures { result ≡ true → IsOver kept.now count limit.now events.now }
+{
+    limit.is_none()
+        && kept.close == Close::End
+        && count > 0
+        && count == events.len()
+        && count == kept.rows.count()
+}
+
 /// The run of a contract, whose first rows, so many, are those of a list.
 fn run_behind<O: Observed, L: Ledger>(
     alloc: Global,
@@ -105,13 +176,41 @@ fn run_behind<O: Observed, L: Ledger>(
     let mut made = Vec::new(alloc);
     let events = events_to_run(alloc, terms, plan, children, seen, &mut made)?;
     let limit = limit_of(alloc, terms, children, seen)?;
+    run_of_events(
+        alloc, terms, plan, children, rows, count, &limit, events, seen, steps,
+    )
+}
+
+/// The same, by the events that count and where the contract is stopped.
+fn run_of_events<O: Observed, L: Ledger>(
+    alloc: Global,
+    terms: &Terms,
+    plan: &Plan,
+    children: &[Arc<Run, Global>],
+    rows: &Rows,
+    count: usize,
+    limit: &Option<Limit>,
+    events: &[Event],
+    seen: &O,
+    steps: &mut Steps<L>,
+) -> Result<Run, NoMemory>
+    requires built { IsBuilt terms.now.kind }
+    requires plan { plan_of terms.now ≡ Ok plan.now }
+    requires within { count ≤ length rows.now }
+    requires same { BeginsWith (run_over terms.now plan.now (O.entries seen.now) (map arc_value children.now)) (take count rows.now) }
+    requires limit { limit.now ≡ limit_of terms.now.common terms.now.kind (O.entries seen.now) (chosen_close (map arc_value children.now)) }
+    requires events { events.now ≡ events_of terms.now plan.now (O.entries seen.now) (map arc_value children.now) }
+    ensures run { IfOk result (λ run. run ≡ run_over terms.now plan.now (O.entries seen.now) (map arc_value children.now)) }
+    ensures in_day_order { IfOk result (λ run. AreInDayOrder run.rows) }
+    ensures ticked { IfOk result (λ run. steps.new + count ≡ steps.old + length run.rows) }
+{
     match state_or_start(terms, plan, rows, count) {
         Ok(state) => {
-            let before = before_limit(&limit, events);
+            let before = before_limit(limit, events);
             let kept = rows.first(alloc, count, before.len())?;
             let left = events_behind(before, count);
             let run = rows_behind(terms, plan, kept, state, left, children, seen, steps)?;
-            Ok(closed_by(&limit, run))
+            Ok(closed_by(limit, run))
         }
         Err(stop) => Ok(stopped_at_once(alloc, stop)),
     }

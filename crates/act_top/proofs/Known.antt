@@ -36,11 +36,6 @@ use Rattle.act_top.specs.Known.{AreBlocksOn, AreKeptAt, AreKnown, AreKnownOn, Ar
 
 -- ---- where all went well
 
--- what follows from what holds then
-pub ok-then : {A : Type 0} (result : Result A Stop) (P Q : Type 0) → OnOk result P → (P → Q) → OnOk result Q
-ok-then (Ok done) P Q is so = so is
-ok-then (Err stop) P Q is so = is
-
 -- what holds anyhow
 pub ok-so : {A : Type 0} (result : Result A Stop) (P : Type 0) → P → OnOk result P
 ok-so (Ok done) P so = so
@@ -301,10 +296,6 @@ no-blocks board blocks kept known = record {
 -- blocks of the same contracts
 pub ones-then : (first second third : Blocks) → AreOnesOf first second → AreOnesOf second third → AreOnesOf first third
 ones-then first second third one two = record { names = two.names ∙ one.names; count = two.count ∙ one.count }
-
--- nothing was put
-pub put-nothing : (c : ℕ) (run : Stream) (blocks : Blocks) → IsKnown blocks.known.items blocks.kept.items c run → IsPut c run blocks blocks
-put-nothing c run blocks known = record { this = known; others = λ d other. (refl, refl) }
 
 -- runs up to a place are of all contracts before it, and the next one is of the contract there
 pub of-next : (runs : List (ℕ × Arc Stream Global)) (place : ℕ) (run : ℕ × Arc Stream Global) → AreOfAll place (shared_runs runs) → place < length runs → run ≡ get_or runs place run → run.0 ≡ place → AreOfAll (place + 1) (shared_runs runs)

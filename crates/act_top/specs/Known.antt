@@ -1,4 +1,4 @@
--- Which lines that are kept are known to be those of rows. This profile's own.
+-- Which lines that are kept are known to be those of blocks. This profile's own.
 use Rattle.std.specs.Prelude.{◌≡◌, ◌≢◌, ◌<◌, ◌≤◌, ◌⊎◌, ℕ, ℤ, List, [], length, take, Option, None, Some, IfSome}
 use Rattle.std.specs.List.{All, slice_get}
 use Rattle.act_board.specs.History.{History, entries_of, version_of}
@@ -71,18 +71,18 @@ AreKeptAt board kept at = IfSome at (λ version. (version ≤ version_of board) 
 abbrev pub AreKnownOn : History → Blocks → Type 0
 AreKnownOn board blocks = (c : ℕ) → IsKnown blocks.known.items blocks.kept.items c (run_of board.portfolio.contracts (entries_of board) c)
 
--- blocks of a board: each is of a contract with a name, and written with these
+-- blocks of a board: each is of a contract with a name, they are written with the names, and what is known of them is so on the board
 pub record AreBlocksOn (board : History) (blocks : Blocks) : Type 0 where
   pub named : length blocks.kept.items ≤ length blocks.names.now.contracts
   pub written : AreWrittenWith blocks.names.now blocks.kept.items
   pub known : AreKnownOn board blocks
 
--- blocks are of the same contracts as others
+-- blocks are as many as others, and written with the same names
 pub record AreOnesOf (before after : Blocks) : Type 0 where
   pub names : after.names.now ≡ before.names.now
   pub count : length after.kept.items ≡ length before.kept.items
 
--- what is known of a contract's block is so of a run, and the blocks of others stay
+-- what is known of a contract's block is so of a run, and of others the blocks stay, and what is known of them
 pub record IsPut (c : ℕ) (run : Stream) (before after : Blocks) : Type 0 where
   pub this : IsKnown after.known.items after.kept.items c run
   pub others : (d : ℕ) → d ≢ c → (slice_get after.known.items d ≡ slice_get before.known.items d) × (slice_get after.kept.items d ≡ slice_get before.kept.items d)

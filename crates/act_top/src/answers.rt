@@ -13,7 +13,7 @@ use crate::by_cuts::write_now;
 use crate::driving::{answer_with, append};
 use crate::evaluation::Evaluation;
 use crate::journal::{ask_count, entry_count};
-use crate::rows::{Blocks, no_lines};
+use crate::rows::{Blocks, no_lines, nothing_known};
 use crate::transcript::{write_opening, write_work};
 use crate::writing::Stop;
 use act_board::Board;
@@ -98,11 +98,12 @@ impl Evaluation {
         let contracts = self.portfolio.named() as usize;
         let answers = ask_count(&self.script.lines);
         let kept = no_lines(alloc, self.names(), contracts, answers)?;
+        let known = nothing_known(alloc, kept.len())?;
         let mut blocks = Blocks {
             names: self.names(),
             line: Vec::new(alloc),
             kept,
-            known: Vec::new(alloc),
+            known,
         };
         // The version at which the blocks of all contracts were written.
         let mut at = None;

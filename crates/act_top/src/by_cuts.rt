@@ -1,6 +1,6 @@
 //! Answers of a board, written one after the other. Rows before the first day that an entry between two answers touches are the
 //! same in both, so their lines are written again as they are kept.
-ghost use Rattle.std.specs.Prelude.{◌≡◌, ◌≤◌, ◌<◌, ℕ, ℤ, Option, Some, length, slice_get, take, IfOk, IfSome, IsSomeAnd, IsTrue, OnOk};
+ghost use Rattle.std.specs.Prelude.{◌≡◌, ◌≤◌, ◌<◌, ℕ, ℤ, Option, Some, length, slice_get, take, IfOk, IfSome, IsSomeAnd, IsTrue};
 ghost use Rattle.std.specs.List.{All, list_all};
 ghost use Rattle.act_board.specs.History.{entries_of, version_of};
 ghost use Rattle.act_model.specs.Answer.{Reply};
@@ -16,7 +16,7 @@ ghost use Rattle.act_top.specs.Output.{ends_well};
 ghost use Rattle.act_top.specs.Ready.{answers_text, shared_runs};
 ghost use Rattle.act_top.specs.Written.{Writes, faults_after};
 
-use crate::rows::Blocks;
+use crate::rows::{Blocks, nothing_known};
 use crate::transcript::write_answer;
 use crate::writing::Stop;
 use act_board::Board;
@@ -45,22 +45,24 @@ pub(crate) fn write_lists_by_cuts<K: Sink>(
     ensures faults { K.faults out.new ≡ faults_after result (K.faults out.old) }
     ensures board { board.new ≡ board.old }
 {
+    let mut known = nothing_known(*line.allocator(), kept.len())?;
     // The version at which the kept lines of all contracts were written.
     let mut at = None;
     let mut ended = true;
     for answers in lists {
-        let ends = write_list_by_cuts(out, line, names, kept, board, &mut at, answers)?;
+        let ends = write_list_by_cuts(out, line, names, kept, &mut known, board, &mut at, answers)?;
         ended &= ends;
     }
     Ok(ended)
 }
 
-/// Writes answers of a board, and answers whether each block ends in `end`. `kept` and `at` are as in `write_by_cuts`.
+/// Writes answers of a board, and answers whether each block ends in `end`. `kept`, `known` and `at` are as in `write_by_cuts`.
 fn write_list_by_cuts<K: Sink>(
     out: &mut K,
     line: &mut Vec<u8>,
     names: &Names,
     kept: &mut [RowLines<'_>],
+    known: &mut [Option<Option<Day>>],
     board: &mut Board,
     at: &mut Option<u64>,
     answers: &[Answer],
@@ -78,19 +80,21 @@ fn write_list_by_cuts<K: Sink>(
 {
     let mut ended = true;
     for answer in answers {
-        let ends = write_by_cuts(out, line, names, kept, board, at, answer)?;
+        let ends = write_by_cuts(out, line, names, kept, known, board, at, answer)?;
         ended &= ends;
     }
     Ok(ended)
 }
 
-/// Writes an answer of a board, and answers whether each of its blocks ends in `end`. `kept` has the lines of rows that were
-/// written last, and `at` is the version at which those of all contracts were, where that is known.
-pub(crate) fn write_by_cuts<K: Sink>(
+/// Writes an answer of a board, and answers whether each of its blocks ends in `end`. `kept` has the lines of blocks that were
+/// written last, and `at` is the version at which those of all contracts were, where that is known. `known` is room for what is
+/// known of each.
+fn write_by_cuts<K: Sink>(
     out: &mut K,
     line: &mut Vec<u8>,
     names: &Names,
     kept: &mut [RowLines<'_>],
+    known: &mut [Option<Option<Day>>],
     board: &mut Board,
     at: &mut Option<u64>,
     answer: &Answer,
@@ -107,28 +111,24 @@ pub(crate) fn write_by_cuts<K: Sink>(
     ensures at { IfOk result (λ _. AreKeptAt board.old kept.new at.new) }
     ensures board { board.new ≡ board.old }
 {
-    let known = known_since(*line.allocator(), board, *at, answer.version, kept.len())?;
-    let ends = write_answer(out, line, names, kept, &known, answer)?;
+    let cuts = cuts_since(*line.allocator(), board, *at, answer.version);
+    tell(known, &cuts);
+    let ends = write_answer(out, line, names, kept, known, answer)?;
     *at = written_at(answer, kept.len());
     Ok(ends)
 }
 
 /// Tells of blocks that were written at a version of a board's book, where it is given, what of them stays now.
-pub(crate) fn know(
-    alloc: Global,
-    blocks: &mut Blocks<'_>,
-    board: &mut Board,
-    at: Option<u64>,
-) -> Result<(), NoMemory>
+pub(crate) fn know(alloc: Global, blocks: &mut Blocks<'_>, board: &mut Board, at: Option<u64>)
     requires { AreKeptAt board.old blocks.old.kept.items at }
-    ensures known { OnOk result (AreKnownOn board.old blocks.new) }
+    ensures known { AreKnownOn board.old blocks.new }
     ensures names { blocks.new.names.now ≡ blocks.old.names.now }
     ensures kept { blocks.new.kept ≡ blocks.old.kept }
     ensures board { board.new ≡ board.old }
 {
     let version = board.version();
-    blocks.known = known_since(alloc, board, at, version, blocks.kept.len())?;
-    Ok(())
+    let cuts = cuts_since(alloc, board, at, version);
+    tell(&mut blocks.known, &cuts);
 }
 
 /// Writes an answer at the version of a board's book, and answers whether each of its blocks ends in `end`, and the version at
@@ -163,38 +163,14 @@ pub(crate) fn write_now<K: Sink>(
     Ok((ends, written_at(answer, blocks.kept.len())))
 }
 
-/// Of each contract, so many, what of its block stays from one version to another, as `cuts_since` tells.
-fn known_since(
-    alloc: Global,
-    board: &mut Board,
-    at: Option<u64>,
-    version: u64,
-    contracts: usize,
-) -> Result<Vec<Option<Option<Day>>>, NoMemory>
-    requires at { IfSome at (λ at. at ≤ version_of board.old) }
-    requires version { version ≤ version_of board.old }
-    ensures kept { IfOk result (λ known. (c : ℕ) (cut : Option ℤ) → slice_get known.items c ≡ Some (Some cut) → IsSomeAnd at (λ at.
-        kept_of (run_of board.old.portfolio.contracts (take at (entries_of board.old)) c) cut
-        ≡ kept_of (run_of board.old.portfolio.contracts (take version (entries_of board.old)) c) cut)) }
-    ensures board { board.new ≡ board.old }
+/// Puts the cuts of contracts in place of what is known of their blocks. Nothing is known where they have no place for a contract.
+fn tell(known: &mut [Option<Option<Day>>], cuts: &[Option<Day>])
+    ensures count { length known.new ≡ length known.old }
+    ensures cuts { (c : ℕ) (cut : Option ℤ) → slice_get known.new c ≡ Some (Some cut) → slice_get cuts.now c ≡ Some cut }
 {
-    let cuts = cuts_since(alloc, board, at, version);
-    each_known(alloc, &cuts, contracts)
-}
-
-/// The cuts of contracts, so many, where they have one.
-fn each_known(
-    alloc: Global,
-    cuts: &[Option<Day>],
-    contracts: usize,
-) -> Result<Vec<Option<Option<Day>>>, NoMemory>
-    ensures { IfOk result (λ known. (c : ℕ) (cut : Option ℤ) → slice_get known.items c ≡ Some (Some cut) → slice_get cuts.now c ≡ Some cut) }
-{
-    let mut known = Vec::with_capacity(alloc, contracts)?;
-    for place in 0..contracts {
-        known.push(cuts.get(place).copied())?;
+    for place in 0..known.len() {
+        known[place] = cuts.get(place).copied();
     }
-    Ok(known)
 }
 
 /// For each contract, the day from which on entries between two versions touch its cone, or None where none of them does; for no

@@ -82,8 +82,8 @@ pub fn answer<L: Ledger>(
     )
 }
 
-/// The same, and the blocks of contracts that are asked for and evaluated are put together. They were written at a version of
-/// the board's book, where that is given.
+/// The same, and the blocks of contracts that are asked for and evaluated are put together. Where a version of the board's book
+/// is given, the blocks that are handed in are those at this version.
 pub(crate) fn answer_with<L: Ledger>(
     alloc: Global,
     portfolio: &Portfolio,
@@ -117,7 +117,7 @@ pub(crate) fn answer_with<L: Ledger>(
     // A portfolio tells of its order and its names only where it is asked for them.
     let _ = portfolio.order();
     let _ = portfolio.named();
-    know(alloc, blocks, board, at)?;
+    know(alloc, blocks, board, at);
     ask(board, asked)?;
     evaluate_all(alloc, portfolio, board, asked, blocks, work, steps)?;
     collect(board)
@@ -139,7 +139,7 @@ fn ask(board: &mut Board, asked: Asked) -> Result<(), NoMemory>
     }
 }
 
-/// Makes one evaluation after another, as long as any may be made.
+/// Makes one evaluation after another, as long as any may be made, and puts the blocks together that are asked for.
 fn evaluate_all<L: Ledger>(
     alloc: Global,
     portfolio: &Portfolio,
@@ -167,7 +167,7 @@ fn evaluate_all<L: Ledger>(
     Ok(())
 }
 
-/// Makes the evaluation that is next, and answers whether there was one.
+/// Makes the evaluation that is next, puts its block together if it is asked for, and answers whether there was one.
 fn evaluate_next<L: Ledger>(
     alloc: Global,
     portfolio: &Portfolio,
@@ -211,7 +211,7 @@ fn evaluate_next<L: Ledger>(
     }
 }
 
-/// Puts together the block of a contract that was evaluated, if it is asked for: its rows were looked at last.
+/// Puts together the block of a contract that was evaluated, if it is asked for, while its rows are at hand.
 fn put_asked(
     blocks: &mut Blocks<'_>,
     asked: Asked,

@@ -4,7 +4,7 @@ ghost use Rattle.std.specs.Arc.{arc_value};
 ghost use Rattle.std.specs.List.{flat_map};
 ghost use Rattle.act_print.specs.Printed.{printed_block};
 ghost use Rattle.act_print.specs.Text.{block_text};
-ghost use Rattle.act_text.specs.Kept.{AreWrittenWith};
+ghost use Rattle.act_text.specs.Kept.{AreWrittenWith, Lines};
 ghost use Rattle.act_text.specs.Lines.{close_text, row_text};
 ghost use Rattle.act_swap.specs.Children.{AreInDayOrder};
 ghost use Rattle.act_top.specs.Known.{IsBlock, IsKnown, IsKnownTo, IsPut, IsRenewed};
@@ -21,17 +21,17 @@ use act_text::{RowLines, RowPrinter, close_line};
 use std::alloc::Global;
 use std::sync::Arc;
 
-/// The blocks of contracts that were written last, and what of them stays.
+/// The blocks of contracts, as they were put together last, and what of them is known to stay.
 #[derive(Drop)]
 pub(crate) struct Blocks<'a> {
     /// The names that they are written with.
     pub names: &'a Names,
     /// Room for a line.
     pub line: Vec<u8>,
-    /// The lines of each contract's block.
+    /// The lines of each contract's block, or of none where nothing is kept.
     pub kept: Vec<RowLines<'a>>,
-    /// Of each contract the day before which the rows of its block stay, or None where all of it does; and None where nothing is
-    /// known.
+    /// Of as many contracts what is known of the block: that the rows before a day stay, or `Some(None)` where all of it does, and
+    /// None where nothing is known.
     pub known: Vec<Option<Option<Day>>>,
 }
 
@@ -59,6 +59,7 @@ impl<'a> Blocks<'a> {
         ensures names { self.new.names.now ≡ self.old.names.now }
         ensures count { length self.new.kept.items ≡ length self.old.kept.items }
         ensures written { AreWrittenWith self.old.names.now self.new.kept.items }
+        ensures block { OnOk result ((lines : Lines) → slice_get self.new.kept.items contract ≡ Some lines → IsBlock contract (arc_value run.now) lines) }
         ensures put { OnOk result (IsPut contract (arc_value run.now) self.old self.new) }
     {
         let place = contract as usize;
@@ -99,9 +100,21 @@ pub(crate) fn no_lines<'a>(
     Ok(kept)
 }
 
+/// That nothing is known of the blocks of contracts, so many.
+pub(crate) fn nothing_known(
+    alloc: Global,
+    contracts: usize,
+) -> Result<Vec<Option<Option<Day>>>, NoMemory> {
+    let mut known = Vec::with_capacity(alloc, contracts)?;
+    'places: while known.len() < contracts {
+        known.push(None)?;
+    }
+    Ok(known)
+}
+
 /// Writes the block of a contract with its run, and keeps its lines where there is a place for the contract. Where `known` has a cut
-/// of a contract, the kept lines are those of its block, here and in what calls it: with the rows before that day, and, where the
-/// cut is None, the whole block. `line` is room for a line, here and below.
+/// of a contract, the kept lines begin with those of its block, here and in what calls it: as far as the rows before that day, and,
+/// where the cut is None, they are the whole block. `line` is room for a line, here and below.
 pub(crate) fn write_run<K: Sink>(
     out: &mut K,
     line: &mut Vec<u8>,
@@ -146,7 +159,8 @@ fn cut_at(known: &[Option<Option<Day>>], place: usize) -> Option<Option<Day>>
     }
 }
 
-/// Makes kept lines the block of a contract with its run. What is known to stand there isn't put together again, nor looked at.
+/// Makes kept lines the block of a contract with its run. Rows that are known to stand there aren't put together again, nor looked
+/// at, and where the whole block is known nothing is.
 fn renew_block(
     line: &mut Vec<u8>,
     names: &Names,

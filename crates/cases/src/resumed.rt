@@ -22,7 +22,7 @@ use act_model::{
 };
 use act_num::{NoMemory, Steps};
 use act_portfolio::Portfolio;
-use act_run::{evaluate, resume};
+use act_run::{evaluate, resume, resume_shared};
 use std::alloc::Global;
 use std::marker::{Brand, Model};
 use std::sync::Arc;
@@ -56,7 +56,7 @@ pub fn answer<F: Files>(told: &mut Told, words: &mut Words<'_>, files: &mut F, c
 }
 
 /// Tells of each contract of a portfolio, over the script below it, how many rows are kept and of how many, where its run before the last
-/// entries goes on to that behind them, and the other way round. Each is compared with the run from inception.
+/// entries goes on to that behind them, and the other way round. Each, shared or not, is compared with the run from inception.
 fn resumed_told<F: Files>(told: &mut Told, words: &mut Words<'_>, files: &mut F) {
     let name = words.word();
     let last = words.count();
@@ -212,7 +212,10 @@ fn resumed_by_terms<O: Observed, L: Ledger>(
         let resumed = resume(
             told.alloc, terms, plan, children, &kept.run, cut, seen, steps,
         )?;
-        if !are_same(&resumed, &run) {
+        let shared = resume_shared(
+            told.alloc, terms, plan, children, &kept.run, cut, seen, steps,
+        )?;
+        if !are_same(&resumed, &run) || !are_same(&shared, &run) {
             told.text("differs from ");
         }
     }

@@ -1,4 +1,4 @@
-use Rattle.std.proofs.Common.{◌+◌, ◌-◌, ◌/◌, ◌<◌, length, refl, sym, subst, ◌∙◌, arith}
+use Rattle.std.proofs.Common.{◌+◌, ◌<◌, length, refl, sym, subst, ◌∙◌, arith}
 use Rattle.act_run.proofs.FirstRows.{AllBefore, NoneBehind, all_before, early_are, none_behind_last, none_before_first, none_from}
 use Rattle.act_run.proofs.kept.count_before.Goals.{then-is_before, else-is_before}
 use Rattle.act_run.proofs.kept.count_before.Goals as goal

@@ -1,5 +1,11 @@
+use Rattle.std.proofs.Common.{◌≡◌, Some, length, slice_get, sym, ap, subst, ◌∙◌}
+use Rattle.act_refs.proofs.Turning.{written_back}
 use Rattle.act_top.proofs.Known.{now-known}
 use Rattle.act_top.proofs.by_cuts.know.Goals as goal
 
 pub returns-clause-known : goal.returns-clause-known
-returns-clause-known c = λ d. now-known c.args.board.now c.version-version.result _ c.args.blocks.now.kept.items c.args.at c.version-version.ensures c.requires c.in_ok-blocks.ensures.kept d
+returns-clause-known c = λ d.
+    let was = c.args.blocks.now.known in
+    rw (written_back was.len c.tell.new.known was.items (c.tell.ensures.count ∙ ap length c.deref_mut.ensures.value) (sym c.deref_mut.ensures.len ∙ ap length c.deref_mut.ensures.value))
+    (now-known c.args.board.now c.version-version.result c.tell.new.known c.args.blocks.now.kept.items c.args.at c.version-version.ensures c.requires
+    (λ k cut is. c.cuts_since-cuts.ensures.kept k cut (subst (λ cuts. slice_get cuts k ≡ Some cut) c.deref.ensures.value (c.tell.ensures.cuts k cut is))) d)

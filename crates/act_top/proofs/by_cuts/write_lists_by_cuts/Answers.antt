@@ -57,7 +57,7 @@ returns-in_err-ends-clause-text g c =
     let lists = c.args.lists.now in
     let item = c.answers-item.result in
     let here = drop-next lists c.loop-answers.answers-index item c.loop-answers-test.true c.answers-item.is in
-    writes-part c.from_residual.result _ _ _ _ c.from_residual.ensures.1
+    writes-part c.from_residual-in_err-ends.result _ _ _ _ c.from_residual-in_err-ends.ensures.1
     (left-part c.in_err-ends.field-0.0 _ _ (answers_text names item.items) _ _ _ _ c.loop-answers.invariant.text
     (ap (λ (ls : List (Vec Reply Global)). answers_text names (replies_of ls)) here ∙ text-both names item.items (replies_of (drop (c.loop-answers.answers-index + 1) lists))) (rw c.deref.ensures.value at c.in_err-ends.ensures.text))
 

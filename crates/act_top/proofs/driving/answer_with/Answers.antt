@@ -24,7 +24,7 @@ evaluate_all-requires g c = record {
       let on : AreBlocksOn board new = record {
         named = omega (arith, c.requires.named, ap length kept, ap (λ (n : NameLists). length n.contracts) c.know.ensures.names);
         written = rw (c.know.ensures.names, c.know.ensures.kept) c.requires.written;
-        known = c.in_ok-know.ensures.known;
+        known = c.know.ensures.known;
       } in
       subst (λ (h : History). AreBlocksOn h new) (sym (c.in_ok-ask.ensures ∙ ap (λ (h : History). and_then h (mark.Ask 1 c.args.asked)) c.know.ensures.board))
       (blocks-same board (and_then board (mark.Ask 1 c.args.asked)) new refl (ask-entries c.args.portfolio.now board c.requires.quiet c.requires.closed c.args.asked) on);

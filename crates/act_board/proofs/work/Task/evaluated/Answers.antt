@@ -37,4 +37,4 @@ pub returns-clause-run : goal.returns-clause-run
 returns-clause-run g c = IfOk-weaker c.evaluate.result _ _ (λ run is. is ∙ run-is g c) c.evaluate.ensures.run
 
 pub returns-clause-ticked : goal.returns-clause-ticked
-returns-clause-ticked g c = counted c.evaluate.result (outcome c.args.self.now) c.evaluate.new.steps c.args.steps.now (returns-clause-run g c) c.evaluate.ensures.ticked
+returns-clause-ticked g c = counted (λ (s : Stream). s) c.evaluate.result (outcome c.args.self.now) c.evaluate.new.steps c.args.steps.now (returns-clause-run g c) c.evaluate.ensures.ticked

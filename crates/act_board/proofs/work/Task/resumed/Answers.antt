@@ -15,12 +15,12 @@ use Rattle.act_board.specs.Work.{Work, outcome}
 use Rattle.act_board.proofs.Worked.{counted, run-made}
 use Rattle.act_board.proofs.work.Task.resumed.Goals as goal
 
-pub resume-requires-clause-children : goal.resume-requires-clause-children
-resume-requires-clause-children g c =
+pub resume_shared-requires-clause-children : goal.resume_shared-requires-clause-children
+resume_shared-requires-clause-children g c =
     subst (λ (runs : List (Arc Stream Global)). RunsAreInDayOrder (map arc_value runs)) (sym c.deref.ensures.value) c.self.invariant.children.1
 
-pub resume-requires-clause-kept : goal.resume-requires-clause-kept
-resume-requires-clause-kept g c =
+pub resume_shared-requires-clause-kept : goal.resume_shared-requires-clause-kept
+resume_shared-requires-clause-kept g c =
     let inside = c.self.inside in
     let q = inside.of.value in
     let is = c.self.invariant in
@@ -36,7 +36,7 @@ resume-requires-clause-kept g c =
     ∙ ap outcome c.self.view_is in
     c.requires.kept.same ∙ ap (λ (run : Stream). kept_of run c.args.cut) (sym made)
 
-run-is : (g : _) (c : goal.After-resume g) → run_over c.index-terms-self.result c.plan-plan.result.now c.self.inside.seen (map arc_value c.deref.result.now) ≡ outcome c.args.self.now
+run-is : (g : _) (c : goal.After-resume_shared g) → run_over c.index-terms-self.result c.plan-plan.result.now c.self.inside.seen (map arc_value c.deref.result.now) ≡ outcome c.args.self.now
 run-is g c =
     let inside = c.self.inside in
     let q = inside.of.value in
@@ -52,8 +52,8 @@ run-is g c =
     ∙ ap outcome c.self.view_is
 
 pub returns-clause-run : goal.returns-clause-run
-returns-clause-run g c = IfOk-weaker c.resume.result _ _ (λ run is. is ∙ run-is g c) c.resume.ensures.run
+returns-clause-run g c = IfOk-weaker c.resume_shared.result _ _ (λ run is. is ∙ run-is g c) c.resume_shared.ensures.run
 
 pub returns-clause-ticked : goal.returns-clause-ticked
 returns-clause-ticked g c =
-    counted c.resume.result (outcome c.args.self.now) (c.resume.new.steps + length (kept_of c.args.kept.now c.args.cut).rows) c.args.steps.now (returns-clause-run g c) c.resume.ensures.ticked
+    counted arc_value c.resume_shared.result (outcome c.args.self.now) (c.resume_shared.new.steps + length (kept_of (arc_value c.args.kept.now) c.args.cut).rows) c.args.steps.now (returns-clause-run g c) c.resume_shared.ensures.ticked

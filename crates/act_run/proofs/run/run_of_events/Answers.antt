@@ -5,40 +5,40 @@ use Rattle.act_swap.specs.Children.{AreInDayOrder}
 use Rattle.act_run.proofs.Limited.{run_in_day_order, run_stopped}
 use Rattle.act_run.proofs.Resumed.{begun, enough_events, no_state, none_first, resumed_run}
 use Rattle.act_profile.specs.Steps.{start_of}
-use Rattle.act_run.proofs.run.run_behind.Goals as goal
+use Rattle.act_run.proofs.run.run_of_events.Goals as goal
 
 pub events_behind-left-requires : goal.events_behind-left-requires
 events_behind-left-requires g c =
     let entries = g.O.Observed.entries c.args.seen.now in
     let children = map arc_value c.args.children.now in
     let from = begun c.args.terms.now c.args.plan.now entries children (take c.args.count c.args.rows.now) c.in-Ok.state c.requires.same (sym c.state_or_start.ensures ∙ c.in-Ok.is) in
-    enough_events c.args.terms.now c.args.plan.now entries children from.first c.in_ok-limit.limit c.in_ok-events.events.now c.args.rows.now c.args.count
-    c.before_limit-before.result.now from.starts c.in_ok-limit.ensures c.in_ok-events.ensures c.requires.same c.requires.within c.before_limit-before.ensures
+    enough_events c.args.terms.now c.args.plan.now entries children from.first c.args.limit.now c.args.events.now c.args.rows.now c.args.count
+    c.before_limit-before.result.now from.starts c.requires.limit c.requires.events c.requires.same c.requires.within c.before_limit-before.ensures
 
-pub returns-in-Ok-clause-run : goal.returns-in-Ok-clause-run
-returns-in-Ok-clause-run g c =
+pub returns-in_ok-run-in-Ok-clause-run : goal.returns-in_ok-run-in-Ok-clause-run
+returns-in_ok-run-in-Ok-clause-run g c =
     let entries = g.O.Observed.entries c.args.seen.now in
     let children = map arc_value c.args.children.now in
     let from = begun c.args.terms.now c.args.plan.now entries children (take c.args.count c.args.rows.now) c.in-Ok.state c.requires.same (sym c.state_or_start.ensures ∙ c.in-Ok.is) in
-    c.closed_by.ensures ∙ resumed_run c.args.terms.now c.args.plan.now entries children from.first c.in_ok-limit.limit c.in_ok-events.events.now c.args.rows.now c.args.count
+    c.closed_by.ensures ∙ resumed_run c.args.terms.now c.args.plan.now entries children from.first c.args.limit.now c.args.events.now c.args.rows.now c.args.count
     c.in_ok-kept-in-Ok.kept c.in-Ok.state c.before_limit-before.result.now c.events_behind-left.result.now c.in_ok-run-in-Ok.run'
-    from.starts c.in_ok-limit.ensures c.in_ok-events.ensures c.requires.same c.requires.within c.in_ok-kept-in-Ok.ensures from.behind
+    from.starts c.requires.limit c.requires.events c.requires.same c.requires.within c.in_ok-kept-in-Ok.ensures from.behind
     c.before_limit-before.ensures c.events_behind-left.ensures c.in_ok-run-in-Ok.ensures.run
 
-pub returns-in-Ok-clause-in_day_order : goal.returns-in-Ok-clause-in_day_order
-returns-in-Ok-clause-in_day_order g c =
+pub returns-in_ok-run-in-Ok-clause-in_day_order : goal.returns-in_ok-run-in-Ok-clause-in_day_order
+returns-in_ok-run-in-Ok-clause-in_day_order g c =
     let entries = g.O.Observed.entries c.args.seen.now in
     let children = map arc_value c.args.children.now in
-    subst (λ (run : Stream). AreInDayOrder run.rows) (sym (returns-in-Ok-clause-run g c)) (run_in_day_order c.args.terms.now c.args.plan.now entries children)
+    subst (λ (run : Stream). AreInDayOrder run.rows) (sym (returns-in_ok-run-in-Ok-clause-run g c)) (run_in_day_order c.args.terms.now c.args.plan.now entries children)
 
-pub returns-clause-run : goal.returns-clause-run
-returns-clause-run g c =
+pub returns-in-Err-clause-run : goal.returns-in-Err-clause-run
+returns-in-Err-clause-run g c =
     let stops = no_state (start_of c.args.terms.now c.args.plan.now) (take c.args.count c.args.rows.now) c.in-Err.stop (sym c.state_or_start.ensures ∙ c.in-Err.is) in
     c.stopped_at_once.ensures
     ∙ run_stopped c.args.terms.now c.args.plan.now (g.O.Observed.entries c.args.seen.now) (map arc_value c.args.children.now) c.in-Err.stop stops
 
-pub returns-clause-ticked : goal.returns-clause-ticked
-returns-clause-ticked g c =
+pub returns-in-Err-clause-ticked : goal.returns-in-Err-clause-ticked
+returns-in-Err-clause-ticked g c =
     let stops = no_state (start_of c.args.terms.now c.args.plan.now) (take c.args.count c.args.rows.now) c.in-Err.stop (sym c.state_or_start.ensures ∙ c.in-Err.is) in
     let none = none_first c.args.terms.now c.args.plan.now (g.O.Observed.entries c.args.seen.now) (map arc_value c.args.children.now) c.in-Err.stop c.args.rows.now c.args.count
     stops c.requires.same c.requires.within in
