@@ -2,8 +2,8 @@
 use Rattle.std.proofs.Common.{◌≡◌, ℕ, ◌+◌, ◌≤◌, ◌<◌, None, List, [], ◌∷◌, ◌++◌, length, length-append, map, refl, sym, ap, subst, ◌∙◌, append_assoc, append-nil, arith}
 use Rattle.std.specs.List.{count_by}
 use Rattle.std.proofs.lemmas.List.{take_all}
-use Rattle.act_board.specs.History.{History, and_then, asks_by, entries_of, version_of}
-use Rattle.act_board.specs.declared.mark.Mark.TheVariants as mark
+use Rattle.act_history.specs.History.{History, and_then, asks_by, entries_of, version_of}
+use Rattle.act_history.specs.declared.mark.Mark.TheVariants as mark
 use Rattle.act_model.specs.Answer.{Reply}
 use Rattle.act_model.specs.Journal.{book_of}
 use Rattle.act_model.specs.Names.{NameLists}

@@ -21,7 +21,7 @@ use Rattle.act_refs.specs.Ordered.{order_of}
 use Rattle.act_refs.specs.Path.{children_of}
 use Rattle.act_run.proofs.KeptOf.{whole_is}
 use Rattle.act_run.specs.Resuming.{kept_by}
-use Rattle.act_board.specs.Tasks.{GoesOnFrom, MayGoOn}
+use Rattle.act_keeping.specs.Tasks.{GoesOnFrom, MayGoOn}
 
 -- the run over children's runs is that of the portfolio
 pub run-made : (q : Accepted) (entries : List Obs) (c : ℕ) (terms : Terms) (plan : EventPlan) (runs : List Stream) → order_of q.contracts.children ≡ Ok q.order → length q.contracts.children ≡ length q.contracts.terms → c < length q.contracts.terms

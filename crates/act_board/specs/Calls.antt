@@ -1,12 +1,12 @@
 -- What the calls of a board answer and leave. This profile's own.
-use Rattle.std.specs.Prelude.{◌≡◌, ◌≤◌, ℕ, if◌then◌else◌, true, false, length, take}
+use Rattle.std.specs.Prelude.{◌≡◌, ℕ, if◌then◌else◌, true, false, take}
 use Rattle.act_model.specs.declared.asks.Asking.{Asking}
 use Rattle.act_profile.specs.Answers.{answer_to}
-use Rattle.act_board.specs.History.{History, IsWanted, and_then, entries_of, has_left, has_result, is_claimed, is_given_up}
-use Rattle.act_board.specs.Latest.{cut_for, kept_for}
-use Rattle.act_board.specs.Legal.{IsNext, IsOldest, IsReady, NoneIsClaimable}
-use Rattle.act_board.specs.Work.{Work, version}
-use Rattle.act_board.specs.declared.mark.Mark.TheVariants as mark
+use Rattle.act_history.specs.History.{History, and_then, entries_of, is_claimed, is_given_up}
+use Rattle.act_keeping.specs.Latest.{cut_for, kept_for}
+use Rattle.act_history.specs.Legal.{HasEnded, IsNext, IsOldest, IsReady, NoneIsClaimable}
+use Rattle.act_keeping.specs.Work.{Work, version}
+use Rattle.act_history.specs.declared.mark.Mark.TheVariants as mark
 use Rattle.act_board.specs.declared.outcome.Claim.{Claim}
 use Rattle.act_board.specs.declared.outcome.Claim.TheVariants as claim
 use Rattle.act_board.specs.declared.outcome.Collected.{Collected}
@@ -18,11 +18,6 @@ use Rattle.act_board.specs.declared.outcome.Collected.TheVariants as collected
 pub record IsOf (history : History) (work : Work) : Type 0 where
   pub portfolio : work.portfolio ≡ history.portfolio
   pub entries : work.entries ≡ take (version work) (entries_of history)
-
--- all callers have left, and nothing that is wanted lacks a result
-pub record HasEnded (history : History) : Type 0 where
-  pub left : (i : ℕ) → 1 ≤ i → i ≤ length history.quotas → has_left history i ≡ true
-  pub done : (c v : ℕ) → IsWanted history c v → has_result history c v ≡ true
 
 -- what is claimed, with the rows that its evaluation keeps of the run at the contract's cached version and the cut between the two versions, or why nothing is
 abbrev pub Claims : History → Claim → History → Type 0

@@ -1,10 +1,10 @@
 -- The list that a history is, where threads pass a board on, and whose its entries are. This profile's own.
 use Rattle.std.specs.Prelude.{ℕ, List, ◌∷◌, map, Option, Some, None}
-use Rattle.act_board.specs.History.{History}
+use Rattle.act_history.specs.History.{History}
 use Rattle.act_board.specs.declared.history.Entry.{Entry}
 use Rattle.act_board.specs.declared.history.Entry.TheVariants as entry
-use Rattle.act_board.specs.declared.mark.Mark.{Mark}
-use Rattle.act_board.specs.declared.mark.Mark.TheVariants.{Append, Ask, Claim, Finish, Collect, Leave, GiveUp}
+use Rattle.act_history.specs.declared.mark.Mark.{Mark}
+use Rattle.act_history.specs.declared.mark.Mark.TheVariants.{Append, Ask, Claim, Finish, Collect, Leave, GiveUp}
 
 -- it opens with the portfolio and the quotas, and goes on with the marks
 abbrev pub list_of : History → List Entry

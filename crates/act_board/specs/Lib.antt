@@ -1,12 +1,2 @@
 pub mod Calls
-pub mod Dropping
 pub mod Entries
-pub mod History
-pub mod Kept
-pub mod Latest
-pub mod Legal
-pub mod Reached
-pub mod Ready
-pub mod Tasks
-pub mod Wanting
-pub mod Work

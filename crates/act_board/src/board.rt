@@ -1,23 +1,27 @@
 //! The board.
 use crate::below::below;
-use crate::caller::{
-    Caller, MOST_ASKS, MOST_CALLERS, MOST_OPEN, all_left, callers_of, close_oldest, oldest,
-    open_ask, set_left, spend,
-};
-use crate::claiming::{are_ready, children_results, first_waiting, results_of};
+use crate::claiming::{are_ready, children_results, results_of};
 use crate::cuts::cuts_between;
-use crate::dropping::drop_runs;
-use crate::latest::{Latest, cached_for, codes_read, none_yet, put_latest};
-use crate::mark::Mark;
+use crate::latest::{cached_for, codes_read};
 use crate::outcome::{AppendFault, AskFault, Claim, Collected};
-use crate::pair::{Pair, Progress, is_claimed, put_progress};
-use crate::ready::{Ready, fill, make_room_for_pairs, nothing_ready, settle};
+use crate::ready::{fill, settle};
 use crate::refer::parents_of;
-use crate::room::{append_entry, make_room, make_room_for_step, put_ask, put_entry, put_mark};
 use crate::wanting::{numbers, want_all};
 use crate::work::{Done, Task};
 use act_cut::IndexedBook;
 use act_date::Day;
+use act_history::Mark;
+use act_keeping::caller::{
+    Caller, MOST_ASKS, MOST_CALLERS, MOST_OPEN, all_left, callers_of, close_oldest, oldest,
+    open_ask, set_left, spend,
+};
+use act_keeping::dropping::drop_runs;
+use act_keeping::latest::{Latest, none_yet, put_latest};
+use act_keeping::pair::{Pair, Progress, first_waiting, is_claimed, put_progress};
+use act_keeping::ready::{Ready, make_room_for_pairs, nothing_ready};
+use act_keeping::room::{
+    append_entry, make_room, make_room_for_step, put_ask, put_entry, put_mark,
+};
 use act_model::{Answer, Asked, Item, MOST_ENTRIES, Obs};
 use act_num::NoMemory;
 use act_portfolio::Portfolio;
@@ -58,16 +62,16 @@ pub struct Board {
 impl Model for Board {
     ghost use Rattle.std.specs.Prelude.{vec_capacity};
     ghost use Rattle.std.specs.Arc.{arc_value};
-    ghost use Rattle.act_board.specs.History.{History};
-    ghost use Rattle.act_board.specs.Kept.{IsBoard};
-    ghost use Rattle.act_board.specs.Latest.{AreLatest};
-    ghost use Rattle.act_board.specs.Ready.{IsReady};
+    ghost use Rattle.act_history.specs.History.{History};
+    ghost use Rattle.act_keeping.specs.Kept.{IsBoard};
+    ghost use Rattle.act_keeping.specs.Latest.{AreLatest};
+    ghost use Rattle.act_keeping.specs.Ready.{IsReady};
 
     ghost Value = { History };
 
     ghost view = { λ b. record { portfolio = arc_value b.portfolio; quotas = b.quotas.items; marks = b.marks.items } };
 
-    ghost invariant = { λ b. IsBoard (record { portfolio = arc_value b.portfolio; quotas = b.quotas.items; marks = b.marks.items }) (vec_capacity b.marks) b.items.items b.book b.callers.items b.pairs.items b.front b.owing b.given_up
+    ghost invariant = { λ b. IsBoard (record { portfolio = arc_value b.portfolio; quotas = b.quotas.items; marks = b.marks.items }) (record { capacity = vec_capacity b.marks; items = b.items.items; book = b.book; callers = b.callers.items; pairs = b.pairs.items; front = b.front; owing = b.owing; given_up = b.given_up })
         × AreLatest (record { portfolio = arc_value b.portfolio; quotas = b.quotas.items; marks = b.marks.items }) b.latest.items
         × IsReady (record { portfolio = arc_value b.portfolio; quotas = b.quotas.items; marks = b.marks.items }) b.pairs.items b.ready.lacking.items b.ready.places.items (vec_capacity b.ready.places) b.parents.items };
 }
@@ -80,14 +84,14 @@ impl Board {
     ghost use Rattle.act_model.specs.Observed.{is_entry};
     ghost use Rattle.act_model.specs.declared.journal.Step.TheVariants as step;
     ghost use Rattle.act_board.specs.Calls.{Claims, Collects, IsOf, after_finish, after_give_up};
-    ghost use Rattle.act_board.specs.History.{IsPresent, and_then, asks_by, entries_of, is_given_up, journal_of, open_asks, version_of};
+    ghost use Rattle.act_history.specs.History.{IsPresent, and_then, asks_by, entries_of, is_given_up, journal_of, open_asks, version_of};
     ghost use Rattle.act_profile.specs.Kept.{kept_of};
     ghost use Rattle.act_profile.specs.Reads.{cut_of};
     ghost use Rattle.act_profile.specs.Run.{run_of};
-    ghost use Rattle.act_board.specs.Latest.{cut_for, kept_for};
-    ghost use Rattle.act_board.specs.Legal.{HasQuota, IsFull, IsLegal, IsNext, IsSound};
-    ghost use Rattle.act_board.specs.Work as evaluation;
-    ghost use Rattle.act_board.specs.declared.mark.Mark.TheVariants as mark;
+    ghost use Rattle.act_keeping.specs.Latest.{cut_for, kept_for};
+    ghost use Rattle.act_history.specs.Legal.{HasQuota, IsFull, IsLegal, IsNext, IsSound};
+    ghost use Rattle.act_keeping.specs.Work as evaluation;
+    ghost use Rattle.act_history.specs.declared.mark.Mark.TheVariants as mark;
     ghost use Rattle.act_board.specs.declared.outcome.AppendFault.TheVariants as appending;
     ghost use Rattle.act_board.specs.declared.outcome.AskFault.TheVariants as asking;
 

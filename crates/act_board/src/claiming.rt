@@ -3,28 +3,16 @@ ghost use Rattle.std.specs.Prelude.{◌≡◌, ℕ, ◌<◌, ◌≤◌, true, fa
 ghost use Rattle.std.specs.Arc.{arc_value};
 ghost use Rattle.std.specs.List.{slice_get};
 ghost use Rattle.act_refs.specs.Path.{IsChild, children_of};
-ghost use Rattle.act_board.specs.History.{History, has_result};
-ghost use Rattle.act_board.specs.Kept.{AreResults, AreSorted, HaveResults, IsFreeAt, IsPast, IsResult, IsThere, Keeps, LacksResult, NoneIsFree, answered, numbered};
-ghost use Rattle.act_board.specs.declared.pair.Pair.{Pair};
+ghost use Rattle.act_history.specs.History.{History, has_result};
+ghost use Rattle.act_keeping.specs.Kept.{AreResults, AreSorted, HaveResults, IsFreeAt, IsPast, IsResult, IsThere, Keeps, LacksResult, NoneIsFree, answered, numbered};
+ghost use Rattle.act_keeping.specs.declared.pair.Pair.{Pair};
 
-use crate::pair::{Pair, Progress, find, is_done, is_waiting};
+use act_keeping::pair::{Pair, Progress, find, is_done};
 use act_model::Run;
 use act_num::NoMemory;
 use act_portfolio::Portfolio;
 use std::alloc::Global;
 use std::sync::Arc;
-
-/// The place of the first pair that waits, from a place on before which none does.
-pub(crate) fn first_waiting(pairs: &[Pair], front: usize) -> usize
-    requires past { IsPast pairs.now front }
-    ensures past { IsPast pairs.now result }
-{
-    let mut place = front;
-    while place < pairs.len() && !is_waiting(&pairs[place].progress) {
-        place += 1;
-    }
-    place
-}
 
 /// Whether a contract has a result at a version.
 pub(crate) fn has_result(portfolio: &Portfolio, pairs: &[Pair], contract: u32, version: u64) -> bool

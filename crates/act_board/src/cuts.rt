@@ -5,9 +5,9 @@ ghost use Rattle.act_profile.specs.Kept.{kept_of};
 ghost use Rattle.act_profile.specs.Reads.{cut_of};
 ghost use Rattle.act_profile.specs.Run.{run_of};
 
-use crate::latest::cut_between;
 use act_cut::IndexedBook;
 use act_date::Day;
+use act_keeping::latest::cut_between;
 use act_num::NoMemory;
 use act_portfolio::Portfolio;
 use std::alloc::Global;

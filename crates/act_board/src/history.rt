@@ -1,6 +1,6 @@
 //! The list that a board stands for, where threads pass it on.
 use crate::board::Board;
-use crate::mark::Mark;
+use act_history::Mark;
 use act_portfolio::Portfolio;
 use act_turn::Kept;
 use std::collections::LinkedList;

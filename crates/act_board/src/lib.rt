@@ -4,24 +4,19 @@
 
 mod below;
 mod board;
-mod caller;
 mod claiming;
 mod cuts;
-mod dropping;
 mod history;
 mod latest;
-mod mark;
 mod outcome;
-mod pair;
 mod ready;
 mod refer;
-mod room;
 mod wanting;
 mod work;
 
+pub use act_history::Mark;
+pub use act_keeping::caller::MOST_CALLERS;
 pub use board::Board;
-pub use caller::MOST_CALLERS;
 pub use history::Entry;
-pub use mark::Mark;
 pub use outcome::{AppendFault, AskFault, Claim, Collected};
 pub use work::{Done, Task};

@@ -2,8 +2,9 @@
 ghost use Rattle.std.specs.Prelude.{◌≡◌, ◌<◌, length, replicate, IfOk, OnOk};
 ghost use Rattle.std.specs.List.{All};
 ghost use Rattle.act_refs.specs.Path.{child_lists};
-ghost use Rattle.act_board.specs.Ready.{AddsTimes, AreParents};
+ghost use Rattle.act_keeping.specs.Ready.{AddsTimes, AreParents};
 
+use act_keeping::refer::{add_parent, no_lists};
 use act_num::NoMemory;
 use act_portfolio::Portfolio;
 use std::alloc::Global;
@@ -21,27 +22,4 @@ pub(crate) fn parents_of(alloc: Global, portfolio: &Portfolio) -> Result<Vec<Vec
         add_parent(&mut parents, children, contract as u32)?;
     }
     Ok(parents)
-}
-
-/// So many empty lists.
-fn no_lists(alloc: Global, count: usize) -> Result<Vec<Vec<u32>>, NoMemory>
-    ensures count { IfOk result (λ lists. length lists.items ≡ count) }
-    ensures empty { IfOk result (λ lists. All (λ list. length list.items ≡ 0) lists.items) }
-{
-    let mut lists = Vec::new(alloc);
-    for _list in 0..count {
-        lists.push(Vec::new(alloc))?;
-    }
-    Ok(lists)
-}
-
-/// Adds a contract to the parents of each of its children.
-fn add_parent(parents: &mut [Vec<u32>], children: &[u32], parent: u32) -> Result<(), NoMemory>
-    requires { All (λ child. child < length parents.old) children.now }
-    ensures { OnOk result (AddsTimes (child_lists parents.old) (child_lists parents.new) children.now parent) }
-{
-    for child in children {
-        parents[*child as usize].push(parent)?;
-    }
-    Ok(())
 }

@@ -3,11 +3,11 @@ ghost use Rattle.std.specs.Prelude.{◌≡◌, ◌+◌, ◌-◌, ◌<◌, ◌≤
 ghost use Rattle.std.specs.List.{range_with_len};
 ghost use Rattle.act_model.specs.Journal.{contracts_of, is_known};
 ghost use Rattle.act_model.specs.declared.journal.Step.TheVariants.{Ask};
-ghost use Rattle.act_board.specs.Kept.{AreSorted};
-ghost use Rattle.act_board.specs.Wanting.{IsAdded, IsExtended, is_asked};
+ghost use Rattle.act_keeping.specs.Kept.{AreSorted};
+ghost use Rattle.act_keeping.specs.Wanting.{IsAdded, IsExtended, is_asked};
 
-use crate::below::is_wanted;
-use crate::pair::{Pair, Progress, find, place_of};
+use act_keeping::pair::{Pair, place_of, want};
+use act_keeping::reached::is_wanted;
 use act_model::Asked;
 use act_portfolio::Portfolio;
 
@@ -50,25 +50,4 @@ pub(crate) fn want_all(
         }
     }
     start
-}
-
-/// Adds the pair of a version and a rank, where it isn't there. There is room for it.
-fn want(pairs: &mut Vec<Pair>, version: u64, rank: u32)
-    requires sorted { AreSorted pairs.old.items }
-    requires room { length pairs.old.items < vec_capacity pairs.old }
-    ensures added { IsAdded pairs.old.items version rank pairs.new.items }
-    ensures room { vec_capacity pairs.old ≤ vec_capacity pairs.new }
-{
-    if find(pairs, version, rank).is_some() {
-        return;
-    }
-    let place = place_of(pairs, version, rank);
-    let pair = Pair {
-        version,
-        rank,
-        progress: Progress::Waiting,
-    };
-    let Ok(()) = pairs.insert(place, pair) else {
-        unreachable!()
-    };
 }

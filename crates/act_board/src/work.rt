@@ -1,8 +1,8 @@
 //! The evaluation of a contract, from when it is handed out until it comes back.
 
-use crate::latest::Cached;
 use act_book::Snapshot as Entries;
 use act_date::Day;
+use act_keeping::latest::Cached;
 use act_model::{Observed, Run};
 use act_num::{NoMemory, Steps};
 use act_portfolio::Portfolio;
@@ -29,8 +29,8 @@ pub struct Task {
 impl Model for Task {
     ghost use Rattle.std.specs.Prelude.{map};
     ghost use Rattle.std.specs.Arc.{arc_value};
-    ghost use Rattle.act_board.specs.Tasks.{IsTask, work_over};
-    ghost use Rattle.act_board.specs.Work.{Work};
+    ghost use Rattle.act_keeping.specs.Tasks.{IsTask, work_over};
+    ghost use Rattle.act_keeping.specs.Work.{Work};
 
     ghost Value = { Work };
 
@@ -44,9 +44,9 @@ impl Task {
     ghost use Rattle.std.specs.Arc.{arc_value};
     ghost use Rattle.act_profile.specs.Kept.{kept_of};
     ghost use Rattle.act_refs.specs.Ordered.{order_of};
-    ghost use Rattle.act_swap.specs.Children.{AreInDayOrder};
-    ghost use Rattle.act_board.specs.Tasks.{AreRunsBelow, GoesOnFrom, MayGoOn, work_over};
-    ghost use Rattle.act_board.specs.Work.{outcome, version};
+    ghost use Rattle.act_profile.specs.DayOrder.{AreInDayOrder};
+    ghost use Rattle.act_keeping.specs.Tasks.{AreRunsBelow, GoesOnFrom, MayGoOn, work_over};
+    ghost use Rattle.act_keeping.specs.Work.{outcome, version};
 
     /// The task of a contract over entries, with its children's runs and what it goes on from.
     pub(crate) fn new(
@@ -236,8 +236,8 @@ pub struct Done {
 
 impl Model for Done {
     ghost use Rattle.std.specs.Arc.{arc_value};
-    ghost use Rattle.act_board.specs.Tasks.{IsDone, work_over};
-    ghost use Rattle.act_board.specs.Work.{Work};
+    ghost use Rattle.act_keeping.specs.Tasks.{IsDone, work_over};
+    ghost use Rattle.act_keeping.specs.Work.{Work};
 
     ghost Value = { Work };
 
@@ -249,8 +249,8 @@ impl Model for Done {
 impl Done {
     ghost use Rattle.std.specs.Prelude.{◌≡◌, ◌+◌, ◌<◌, length};
     ghost use Rattle.std.specs.Arc.{arc_value};
-    ghost use Rattle.act_swap.specs.Children.{AreInDayOrder};
-    ghost use Rattle.act_board.specs.Work.{outcome, version};
+    ghost use Rattle.act_profile.specs.DayOrder.{AreInDayOrder};
+    ghost use Rattle.act_keeping.specs.Work.{outcome, version};
 
     /// How many rows of its run weren't kept of the contract's latest result.
     pub fn fresh(&self) -> u64

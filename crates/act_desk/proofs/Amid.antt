@@ -16,11 +16,11 @@ use Rattle.act_model.specs.declared.journal.Step.TheVariants as step
 use Rattle.act_model.specs.declared.observed.Obs.{Obs}
 use Rattle.act_profile.specs.Answers.{answer_to}
 use Rattle.act_profile.specs.Run.{Contracts, run_of}
-use Rattle.act_board.specs.History.{History, IsPresent, and_then, appended_by, asks_by, collected_by, entries_of, is_append_by, is_collect_by, version_of}
-use Rattle.act_board.specs.Legal.{IsOldest}
-use Rattle.act_board.specs.declared.mark.Mark.{Mark}
-use Rattle.act_board.specs.declared.mark.Mark.TheVariants as mark
-use Rattle.act_board.proofs.Going.{asks-append, asks-own, asks-same, count-not, count-yes, entries-ask, entries-more, entries-same}
+use Rattle.act_history.specs.History.{History, IsPresent, and_then, appended_by, asks_by, collected_by, entries_of, is_append_by, is_collect_by, version_of}
+use Rattle.act_history.specs.Legal.{IsOldest}
+use Rattle.act_history.specs.declared.mark.Mark.{Mark}
+use Rattle.act_history.specs.declared.mark.Mark.TheVariants as mark
+use Rattle.act_history.proofs.Going.{asks-append, asks-own, asks-same, count-not, count-yes, entries-ask, entries-more, entries-same}
 use Rattle.act_desk.specs.Making.{IsAmid, appends, asks}
 use Rattle.act_desk.proofs.Goes.{GoesOnBeside}
 use Rattle.act_desk.proofs.Own.{present-next}

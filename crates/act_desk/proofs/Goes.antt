@@ -6,10 +6,10 @@ use Rattle.std.proofs.lemmas.List.Elements.{filter-append}
 use mathlib.Core.List.{IsPrefix}
 use Rattle.act_turn.specs.Journal.{entries_of, is_by}
 use Rattle.act_board.specs.Entries.{author_of, list_of}
-use Rattle.act_board.specs.History.{History, and_then}
+use Rattle.act_history.specs.History.{History, and_then}
 use Rattle.act_board.specs.declared.history.Entry.{Entry}
 use Rattle.act_board.specs.declared.history.Entry.TheVariants as entry
-use Rattle.act_board.specs.declared.mark.Mark.{Mark}
+use Rattle.act_history.specs.declared.mark.Mark.{Mark}
 
 -- a history that goes on with some marks
 abbrev pub goes_on : History → List Mark → History

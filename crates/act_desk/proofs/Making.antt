@@ -17,13 +17,13 @@ use Rattle.act_portfolio.specs.Reading.{Accepted}
 use Rattle.act_turn.specs.Journal.{entries_of as own_of, is_by}
 use Rattle.act_turn.specs.Standing.{Standing, own_entries}
 use Rattle.act_board.specs.Entries.{author_of, caller_of, list_of}
-use Rattle.act_board.specs.History.{History, IsPresent, and_then, asks_by, collected_by, entries_of, is_collect_by, is_leave_by, item_of}
+use Rattle.act_history.specs.History.{History, IsPresent, and_then, asks_by, collected_by, entries_of, is_collect_by, is_leave_by, item_of}
 use Rattle.act_board.specs.declared.history.Entry.{Entry}
 use Rattle.act_board.specs.declared.history.Entry.TheVariants as entry
-use Rattle.act_board.specs.declared.mark.Mark.{Mark}
-use Rattle.act_board.specs.declared.mark.Mark.TheVariants as mark
+use Rattle.act_history.specs.declared.mark.Mark.{Mark}
+use Rattle.act_history.specs.declared.mark.Mark.TheVariants as mark
 use Rattle.act_board.specs.declared.outcome.Collected.TheVariants as collected
-use Rattle.act_board.proofs.Going.{any-not, asks-same, count-not, count-yes, entries-same}
+use Rattle.act_history.proofs.Going.{any-not, asks-same, count-not, count-yes, entries-same}
 use Rattle.act_desk.specs.Calls.{Appends, Asks, CollectsOrNot, Leaves}
 use Rattle.act_desk.specs.Making.{HasCollected, HasMade, HasStopped, HasWatched, IsAmid, IsMaking, MayHaveCollected, asks, item_by}
 use Rattle.act_desk.specs.Step.{IsStep}

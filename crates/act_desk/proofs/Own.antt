@@ -8,11 +8,11 @@ use Rattle.act_model.specs.declared.observed.Obs.{Obs}
 use Rattle.act_turn.specs.Journal.{entries_of, is_by}
 use Rattle.act_turn.specs.Standing.{Standing, own_entries}
 use Rattle.act_board.specs.Entries.{author_of, list_of}
-use Rattle.act_board.specs.History.{History, IsPresent, and_then, asks_by, collected_by, is_collect_by, is_leave_by}
+use Rattle.act_history.specs.History.{History, IsPresent, and_then, asks_by, collected_by, is_collect_by, is_leave_by}
 use Rattle.act_board.specs.declared.history.Entry.{Entry}
-use Rattle.act_board.specs.declared.mark.Mark.{Mark}
-use Rattle.act_board.specs.declared.mark.Mark.TheVariants as mark
-use Rattle.act_board.proofs.Going.{any-not, asks-append, asks-own, asks-same, count-not, count-yes}
+use Rattle.act_history.specs.declared.mark.Mark.{Mark}
+use Rattle.act_history.specs.declared.mark.Mark.TheVariants as mark
+use Rattle.act_history.proofs.Going.{any-not, asks-append, asks-own, asks-same, count-not, count-yes}
 use Rattle.act_desk.specs.Step.{IsStep, added, and_maybe}
 use Rattle.act_desk.proofs.Goes.{GoesOnBeside, beside}
 use Rattle.act_desk.proofs.Taken.{list-next}

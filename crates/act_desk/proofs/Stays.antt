@@ -12,12 +12,12 @@ use Rattle.act_model.specs.declared.journal.Step.TheVariants as step
 use Rattle.act_model.specs.declared.observed.Obs.{Obs}
 use Rattle.act_board.specs.Calls.{IsOf}
 use Rattle.act_board.specs.Entries.{caller_of}
-use Rattle.act_board.specs.History.{History, IsPresent, and_then, appended_by, asks_by, collected_by, entries_of as book, has_left, is_append_by, is_collect_by, is_give_up, is_given_up, is_leave_by, item_of, journal_of, open_asks}
-use Rattle.act_board.specs.Work.{Work, version}
-use Rattle.act_board.specs.declared.mark.Mark.{Mark}
-use Rattle.act_board.specs.declared.mark.Mark.TheVariants as mark
-use Rattle.act_board.proofs.Callers.{Spares}
-use Rattle.act_board.proofs.Going.{any-not, asks-append, asks-other, asks-same, count-not}
+use Rattle.act_history.specs.History.{History, IsPresent, and_then, appended_by, asks_by, collected_by, entries_of as book, has_left, is_append_by, is_collect_by, is_give_up, is_given_up, is_leave_by, item_of, journal_of, open_asks}
+use Rattle.act_keeping.specs.Work.{Work, version}
+use Rattle.act_history.specs.declared.mark.Mark.{Mark}
+use Rattle.act_history.specs.declared.mark.Mark.TheVariants as mark
+use Rattle.act_keeping.proofs.Callers.{Spares}
+use Rattle.act_history.proofs.Going.{any-not, asks-append, asks-other, asks-same, count-not}
 use Rattle.act_desk.proofs.Goes.{GoesOnBeside, NoneBy, goes_on, going-on}
 
 -- a mark of another spares a caller

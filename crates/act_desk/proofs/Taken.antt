@@ -7,10 +7,10 @@ use mathlib.Core.List.{IsPrefix}
 use Rattle.act_turn.specs.Journal.{GoesOn, entries_of, is_by}
 use Rattle.act_turn.specs.Standing.{Standing, own_entries}
 use Rattle.act_board.specs.Entries.{author_of, caller_of, list_of}
-use Rattle.act_board.specs.History.{History}
+use Rattle.act_history.specs.History.{History}
 use Rattle.act_board.specs.declared.history.Entry.{Entry}
 use Rattle.act_board.specs.declared.history.Entry.TheVariants as entry
-use Rattle.act_board.specs.declared.mark.Mark.{Mark}
+use Rattle.act_history.specs.declared.mark.Mark.{Mark}
 use Rattle.act_desk.specs.Step.{IsStep, added, and_maybe}
 use Rattle.act_desk.proofs.Goes.{GoesOnBeside, beside}
 

@@ -12,13 +12,13 @@ use Rattle.act_turn.specs.Journal.{entries_of, is_by}
 use Rattle.act_turn.specs.Standing.{IsFree, Standing}
 use Rattle.act_board.specs.Calls.{Claims, IsOf, after_give_up}
 use Rattle.act_board.specs.Entries.{author_of, caller_of, list_of}
-use Rattle.act_board.specs.History.{History, IsPresent, and_then, is_claimed, is_give_up, is_given_up, is_leave_by, open_asks}
-use Rattle.act_board.specs.Legal.{HasQuota, IsFull, most_asks, most_open}
-use Rattle.act_board.specs.Work.{Work, version}
+use Rattle.act_history.specs.History.{History, IsPresent, and_then, is_claimed, is_give_up, is_given_up, is_leave_by, open_asks}
+use Rattle.act_history.specs.Legal.{HasQuota, IsFull, most_asks, most_open}
+use Rattle.act_keeping.specs.Work.{Work, version}
 use Rattle.act_board.specs.declared.history.Entry.{Entry}
 use Rattle.act_board.specs.declared.history.Entry.TheVariants as entry
-use Rattle.act_board.specs.declared.mark.Mark.{Mark}
-use Rattle.act_board.specs.declared.mark.Mark.TheVariants as mark
+use Rattle.act_history.specs.declared.mark.Mark.{Mark}
+use Rattle.act_history.specs.declared.mark.Mark.TheVariants as mark
 use Rattle.act_board.specs.declared.outcome.AppendFault.{AppendFault}
 use Rattle.act_board.specs.declared.outcome.AppendFault.TheVariants as appending
 use Rattle.act_board.specs.declared.outcome.AskFault.{AskFault}
@@ -26,7 +26,7 @@ use Rattle.act_board.specs.declared.outcome.AskFault.TheVariants as asking
 use Rattle.act_board.specs.declared.outcome.Claim.{Claim}
 use Rattle.act_board.specs.declared.outcome.Claim.TheVariants as claim
 use Rattle.act_board.specs.declared.outcome.Collected.TheVariants as collected
-use Rattle.act_board.proofs.Going.{any-not, any-yes, entries-same}
+use Rattle.act_history.proofs.Going.{any-not, any-yes, entries-same}
 use Rattle.act_model.specs.declared.asks.Asking.{Asking}
 use Rattle.act_model.specs.declared.journal.Asked.{Asked}
 use Rattle.act_model.specs.declared.observed.Obs.{Obs}

@@ -13,8 +13,8 @@ use Rattle.act_model.specs.declared.journal.Asked.{Asked}
 use Rattle.act_model.specs.declared.observed.Obs.{Obs}
 use Rattle.act_portfolio.specs.Reading.{Accepted}
 use Rattle.act_turn.specs.Standing.{IsFree, Standing}
-use Rattle.act_board.specs.History.{History, IsPresent, asks_by, collected_by, is_given_up, open_asks}
-use Rattle.act_board.specs.Legal.{HasQuota, IsFull, most_open}
+use Rattle.act_history.specs.History.{History, IsPresent, asks_by, collected_by, is_given_up, open_asks}
+use Rattle.act_history.specs.Legal.{HasQuota, IsFull, most_open}
 use Rattle.act_board.specs.declared.history.Entry.{Entry}
 use Rattle.act_desk.specs.Making.{IsMaking, MayMake, appends, asks}
 use Rattle.act_desk.specs.Step.{HasSeen}

@@ -4,10 +4,10 @@ use Rattle.act_model.specs.declared.journal.Asked.{Asked}
 use Rattle.act_model.specs.declared.observed.Obs.{Obs}
 use Rattle.act_num.specs.declared.NoMemory.{NoMemory}
 use Rattle.act_board.specs.Calls.{Claims, Collects, after_finish, after_give_up}
-use Rattle.act_board.specs.History.{History, and_then, asks_by, is_given_up, version_of}
-use Rattle.act_board.specs.Legal.{HasQuota, IsFull, IsLegal}
-use Rattle.act_board.specs.Work.{Work, version}
-use Rattle.act_board.specs.declared.mark.Mark.TheVariants as mark
+use Rattle.act_history.specs.History.{History, and_then, asks_by, is_given_up, version_of}
+use Rattle.act_history.specs.Legal.{HasQuota, IsFull, IsLegal}
+use Rattle.act_keeping.specs.Work.{Work, version}
+use Rattle.act_history.specs.declared.mark.Mark.TheVariants as mark
 use Rattle.act_board.specs.declared.outcome.AppendFault.{AppendFault}
 use Rattle.act_board.specs.declared.outcome.AppendFault.TheVariants as appending
 use Rattle.act_board.specs.declared.outcome.AskFault.{AskFault}

@@ -12,14 +12,13 @@ use Rattle.act_model.specs.declared.journal.Step.{Step}
 use Rattle.act_model.specs.declared.journal.Step.TheVariants.{Append, Ask}
 use Rattle.act_profile.specs.Answers.{answer_to}
 use Rattle.act_turn.specs.Standing.{Standing, own_entries}
-use Rattle.act_board.specs.Calls.{HasEnded}
 use Rattle.act_board.specs.Entries.{author_of, list_of}
-use Rattle.act_board.specs.History.{History, IsPresent, appended_by, asks_by, collected_by, entries_of, has_left, is_collect_by, is_given_up, is_leave_by, item_of, version_of}
-use Rattle.act_board.specs.Legal.{most_asks}
+use Rattle.act_history.specs.History.{History, IsPresent, appended_by, asks_by, collected_by, entries_of, has_left, is_collect_by, is_given_up, is_leave_by, item_of, version_of}
+use Rattle.act_history.specs.Legal.{HasEnded, most_asks}
 use Rattle.act_board.specs.declared.history.Entry.{Entry}
 use Rattle.act_board.specs.declared.history.Entry.TheVariants as entry
-use Rattle.act_board.specs.declared.mark.Mark.{Mark}
-use Rattle.act_board.specs.declared.mark.Mark.TheVariants as mark
+use Rattle.act_history.specs.declared.mark.Mark.{Mark}
+use Rattle.act_history.specs.declared.mark.Mark.TheVariants as mark
 use Rattle.act_board.specs.declared.outcome.Collected.TheVariants.{Ready}
 use Rattle.act_desk.specs.Calls.{CollectsOrNot}
 use Rattle.act_desk.specs.Step.{IsStep}

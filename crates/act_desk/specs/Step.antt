@@ -5,10 +5,10 @@ use Rattle.act_turn.specs.Journal.{entries_of}
 use Rattle.act_turn.specs.Standing.{Standing, own_entries}
 use Rattle.act_portfolio.specs.Reading.{Accepted}
 use Rattle.act_board.specs.Entries.{author_of, list_of}
-use Rattle.act_board.specs.History.{History, and_then}
+use Rattle.act_history.specs.History.{History, and_then}
 use Rattle.act_board.specs.declared.history.Entry.{Entry}
 use Rattle.act_board.specs.declared.history.Entry.TheVariants as entry
-use Rattle.act_board.specs.declared.mark.Mark.{Mark}
+use Rattle.act_history.specs.declared.mark.Mark.{Mark}
 
 -- the history on which nothing has happened
 abbrev pub opening : Accepted → List ℕ → History

@@ -9,7 +9,7 @@ ghost use Rattle.act_turn.specs.Journal.{entries_of};
 ghost use Rattle.act_turn.specs.Standing.{AreNumbered, IsFree, own_entries};
 ghost use Rattle.act_board.specs.Calls.{IsOf};
 ghost use Rattle.act_board.specs.Entries.{author_of, list_of};
-ghost use Rattle.act_board.specs.History.{IsPresent, is_given_up, open_asks};
+ghost use Rattle.act_history.specs.History.{IsPresent, is_given_up, open_asks};
 ghost use Rattle.act_desk.specs.Calls.{Appends, Asks, ClaimsOrNot, CollectsOrNot, Finishes, GivesUp, Leaves};
 ghost use Rattle.act_desk.specs.Step.{HasSeen, IsStep, opening};
 

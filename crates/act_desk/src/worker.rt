@@ -1,7 +1,7 @@
 //! Workers.
 ghost use Rattle.std.specs.Prelude.{◌≡◌, true, IfErr, IfOk};
 ghost use Rattle.act_turn.specs.Standing.{IsFree};
-ghost use Rattle.act_board.specs.History.{is_given_up};
+ghost use Rattle.act_history.specs.History.{is_given_up};
 ghost use Rattle.act_desk.specs.Making.{HasWatched, IsOver};
 ghost use Rattle.act_desk.specs.Step.{HasSeen};
 

@@ -2,7 +2,7 @@
 ghost use Rattle.std.specs.Prelude.{◌≡◌, ◌<◌, true, false, IfErr, IfOk};
 ghost use Rattle.act_turn.specs.Standing.{IsFree};
 ghost use Rattle.act_board.specs.Calls.{IsOf};
-ghost use Rattle.act_board.specs.History.{is_given_up};
+ghost use Rattle.act_history.specs.History.{is_given_up};
 ghost use Rattle.act_desk.specs.Making.{HasWatched, IsOver};
 ghost use Rattle.act_desk.specs.Step.{HasSeen};
 

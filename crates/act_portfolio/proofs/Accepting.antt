@@ -5,12 +5,13 @@ use Rattle.act_profile.specs.Outcomes.{map_ok, then_ok}
 use Rattle.act_refs.specs.Ordered.{order_of}
 use Rattle.act_terms.specs.Contract.{NamedTerms, contract_of}
 use Rattle.serde_json.specs.Data.{Data}
-use Rattle.act_portfolio.specs.Binding.{children_with_shadows, with_shadows}
+use Rattle.act_binding.specs.Binding.{children_with_shadows, with_shadows}
 use Rattle.act_portfolio.specs.Known.{checked, portfolio_with}
-use Rattle.act_portfolio.specs.Links.{first_unfit}
-use Rattle.act_portfolio.specs.Reading.{Accepted, accepted, contracts_from, first_past, first_repeated, fitting, ordered, plans_from, portfolio_listed, refused_order, unrepeated, unused_lists, within_limit}
-use Rattle.act_portfolio.specs.Refusal.{Refusal, refused_terms, refusing}
-use Rattle.act_portfolio.proofs.ReadSoFar.{Read}
+use Rattle.act_portfolio.specs.Fit.{first_unfit, fitting}
+use Rattle.act_portfolio.specs.Reading.{Accepted, accepted, ordered, portfolio_listed}
+use Rattle.act_refusal.specs.Steps.{contracts_from, first_past, first_repeated, plans_from, refused_order, unrepeated, unused_lists, within_limit}
+use Rattle.act_refusal.specs.Refusal.{Refusal, refused_terms, refusing}
+use Rattle.act_refusal.proofs.ReadSoFar.{Read}
 
 -- ---- step by step
 

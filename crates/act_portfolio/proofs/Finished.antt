@@ -13,18 +13,24 @@ use Rattle.act_profile.specs.Built.{IsBuilt}
 use Rattle.act_profile.specs.Outcomes.{map_ok}
 use Rattle.act_profile.specs.Plan.{plan_of}
 use Rattle.act_terms.specs.Contract.{NamedTerms}
-use Rattle.act_portfolio.specs.Binding.{bound, bound_terms, children_with_shadows, shadow_of, with_shadows}
-use Rattle.act_portfolio.specs.Cones.{AreCones, AreRanks}
-use Rattle.act_portfolio.specs.Known.{AreNumbered, HavePlans, IsContract, IsGraph, IsPortfolio, count_with_shadows, portfolio_with}
-use Rattle.act_portfolio.specs.Links.{first_unfit, listing_of}
-use Rattle.act_portfolio.specs.Reading.{IsAccepted, plans_from}
-use Rattle.act_portfolio.proofs.Graphed.{AreWithin}
-use Rattle.act_portfolio.proofs.Kept.{plan_each}
-use Rattle.act_portfolio.proofs.Linked.{are_linked}
-use Rattle.act_portfolio.proofs.Lists.{all_at, slice_get_before}
-use Rattle.act_portfolio.proofs.PlannedSoFar.{each_planned}
-use Rattle.act_portfolio.proofs.Shadowed.{as_many_numbers}
-use Rattle.act_portfolio.proofs.Unchanged.{all_terms_built, bound_built, same_plans, shadows_built}
+use Rattle.act_binding.specs.Binding.{bound, bound_terms, children_with_shadows, shadow_of, with_shadows}
+use Rattle.act_cones.specs.Cones.{AreCones, AreRanks}
+use Rattle.act_refusal.specs.Known.{AreNumbered, IsContract, count_with_shadows}
+use Rattle.act_cones.specs.Counts.{HavePlans}
+use Rattle.act_portfolio.specs.Known.{IsGraph, IsPortfolio, portfolio_with}
+use Rattle.act_portfolio.specs.Fit.{first_unfit}
+use Rattle.act_binding.specs.Links.{listing_of}
+use Rattle.act_portfolio.specs.Reading.{IsAccepted}
+use Rattle.act_refusal.specs.Steps.{plans_from}
+use Rattle.act_binding.proofs.Graphed.{AreWithin}
+use Rattle.act_cones.proofs.Orders.{plan_each}
+use Rattle.act_portfolio.proofs.Fitted.{all_fit}
+use Rattle.act_binding.proofs.Linked.{are_linked}
+use Rattle.act_cones.proofs.Lists.{all_at, slice_get_before}
+use Rattle.act_refusal.proofs.PlannedSoFar.{each_planned}
+use Rattle.act_binding.proofs.Shadowed.{as_many_numbers}
+use Rattle.act_refusal.proofs.Built.{all_terms_built}
+use Rattle.act_binding.proofs.Unchanged.{bound_built, same_plans, shadows_built}
 
 module _ (named : List NamedTerms) (numbers : List ℕ) (shadows : List Terms) (lists : List (List ℕ)) (order : List ℕ) (graph : IsGraph named numbers shadows lists order) (known : All IsContract named) (few : count_with_shadows named ≤ 4096) where
   pub many_numbers : length numbers ≡ length named
@@ -80,7 +86,7 @@ module _ (named : List NamedTerms) (numbers : List ℕ) (shadows : List Terms) (
       terms_are = bound_as ∙ rw (graph.shadows, graph.numbers) refl
 
       linked : first_unfit named ≡ None → AreNumbered named → IsLinked (record { terms = terms; plans = plans; children = lists })
-      linked fit places = rw (terms_are, graph.children) (are_linked named plans fit places (ap (map plan_of) (sym terms_are) ∙ planned_all))
+      linked fit places = rw (terms_are, graph.children) (are_linked named plans (all_fit named fit) places.each (ap (map plan_of) (sym terms_are) ∙ planned_all))
 
       module _ (names : NameLists) (unused : List (List (List ℕ))) (ids : names.contracts ≡ map (λ (c : NamedTerms). c.id) named) (all_unused : length unused ≡ length named) where
         is_accepted : first_unfit named ≡ None → AreNumbered named → IsAccepted names (record { terms = terms; plans = plans; children = lists }) order unused

@@ -1,38 +1,22 @@
 -- What is known of contracts on the way to a portfolio.
-use Rattle.std.specs.Prelude.{◌≡◌, ℕ, ◌+◌, ◌<◌, ◌≤◌, true, false, codes, length, map, slice_get, None, Some, List, [], Ok, Result, zero}
-use Rattle.std.specs.List.{All, filter_map, sum_by, zip}
-use Rattle.std.specs.Str.{bytes_eq}
+use Rattle.std.specs.Prelude.{◌≡◌, ℕ, ◌+◌, ◌<◌, ◌≤◌, length, map, None, List, [], Ok, Result, zero}
+use Rattle.std.specs.List.{All, filter_map, zip}
 use Rattle.act_model.specs.Limits.{most_contracts}
-use Rattle.act_model.specs.Name.{is_name}
 use Rattle.act_model.specs.Names.{NameLists, no_names}
 use Rattle.act_model.specs.Reads.{Readings}
 use Rattle.act_model.specs.Run.{EventPlan}
 use Rattle.act_model.specs.declared.terms.Terms.{Terms}
-use Rattle.act_profile.specs.Built.{IsBuilt}
-use Rattle.act_profile.specs.Contract.{observed_as}
-use Rattle.act_profile.specs.Plan.{plan_of}
 use Rattle.act_refs.specs.Ordered.{order_of}
 use Rattle.act_terms.specs.Contract.{NamedTerms}
+use Rattle.act_cones.specs.Cones.{AreCones, AreRanks}
+use Rattle.act_binding.specs.Binding.{bound_terms, children_with_shadows, shadow_numbers, shadow_of}
+use Rattle.act_binding.specs.Links.{listing_of}
+use Rattle.act_refusal.specs.Steps.{contracts_from, first_past, first_repeated, unrepeated, unused_lists, within_limit}
+use Rattle.act_refusal.specs.Known.{IsContract, count_with_shadows}
+use Rattle.act_refusal.specs.Refusal.{Refusal, ◌>>=◌}
+use Rattle.act_portfolio.specs.Fit.{first_unfit, fitting}
+use Rattle.act_portfolio.specs.Reading.{Accepted, IsAccepted, portfolio_listed}
 use Rattle.serde_json.specs.Data.{Data}
-use Rattle.act_portfolio.specs.Binding.{bound_terms, children_with_shadows, shadow_numbers, shadow_of}
-use Rattle.act_portfolio.specs.Cones.{AreCones, AreRanks}
-use Rattle.act_portfolio.specs.Links.{first_unfit, listing_of}
-use Rattle.act_portfolio.specs.Reading.{Accepted, IsAccepted, contracts_from, counts_as, first_past, first_repeated, fitting, portfolio_listed, unrepeated, unused_lists, within_limit}
-use Rattle.act_portfolio.specs.Refusal.{Refusal, ◌>>=◌}
-
--- a contract whose terms are read: its name is a name and no star, and what is asked of its kind holds
-pub record IsContract (c : NamedTerms) : Type 0 where
-  pub name : is_name c.id ≡ true
-  pub no_star : bytes_eq c.id (codes "*") ≡ false
-  pub built : IsBuilt c.terms.kind
-
--- contracts have the events that are observed under their places
-pub record AreNumbered (contracts : List NamedTerms) : Type 0 where
-  pub each : (place : ℕ) (c : NamedTerms) → slice_get contracts place ≡ Some c → observed_as c.terms.common ≡ place
-
--- how many contracts some are, with their shadows
-abbrev pub count_with_shadows : List NamedTerms → ℕ
-count_with_shadows contracts = sum_by (λ c. counts_as c.terms.kind) contracts
 
 -- contracts that are read are no more than there may be, no name comes twice, and the references of each fit its kind
 abbrev pub checked : List NamedTerms → Result (List NamedTerms) Refusal
@@ -61,11 +45,6 @@ pub record AreChecked (objects : List Data) (contracts : CheckedContracts) : Typ
 -- a portfolio, or what refuses it, is that of contracts that were read from objects and checked
 abbrev pub IsMadeOf : Result Accepted Refusal → CheckedContracts → Type 0
 IsMadeOf portfolio contracts = (objects : List Data) × (portfolio ≡ portfolio_listed objects) × AreChecked objects contracts
-
--- terms have these plans, and what is asked of their kinds holds
-pub record HavePlans (terms : List Terms) (plans : List EventPlan) : Type 0 where
-  pub built : (c : ℕ) (t : Terms) → slice_get terms c ≡ Some t → IsBuilt t.kind
-  pub planned : (c : ℕ) (t : Terms) (plan : EventPlan) → slice_get terms c ≡ Some t → slice_get plans c ≡ Some plan → plan_of t ≡ Ok plan
 
 -- what contracts refer to: the numbers that their shadows have, the shadows, and the children of all, which have an order
 pub record IsGraph (contracts : List NamedTerms) (behind : List ℕ) (behind_terms : List Terms) (lists : List (List ℕ)) (order : List ℕ) : Type 0 where

@@ -1,7 +1,3 @@
-pub mod Binding
-pub mod Cones
-pub mod Counts
+pub mod Fit
 pub mod Known
-pub mod Links
 pub mod Reading
-pub mod Refusal

@@ -1,25 +1,20 @@
 //! Contracts as a graph, bound to what they refer to.
-ghost use Rattle.std.specs.Prelude.{◌≡◌, ◌++◌, ◌+◌, ◌≤◌, None, Ok, Err, IfOk, IfErr, IfSome, length, map, string_bytes, zero};
-ghost use Rattle.std.specs.List.{All, zip};
-ghost use Rattle.act_profile.specs.Built.{IsBuilt};
+ghost use Rattle.std.specs.Prelude.{◌≡◌, ◌≤◌, None, Ok, Err, IfOk, IfErr, IfSome, length, map, string_bytes, zero};
+ghost use Rattle.std.specs.List.{All};
 ghost use Rattle.act_profile.specs.Outcomes.{map_ok};
-ghost use Rattle.act_portfolio.specs.Binding.{bound, with_shadows};
-ghost use Rattle.act_portfolio.specs.Known.{AreNumbered, HavePlans, IsContract, IsGraph, count_with_shadows, portfolio_with};
-ghost use Rattle.act_portfolio.specs.Links.{first_unfit, listing_of};
-ghost use Rattle.act_portfolio.specs.Reading.{ordered, plans_from};
-ghost use Rattle.act_portfolio.specs.Refusal.{refusal_of};
+ghost use Rattle.act_binding.specs.Binding.{with_shadows};
+ghost use Rattle.act_refusal.specs.Known.{AreNumbered, IsContract, count_with_shadows};
+ghost use Rattle.act_portfolio.specs.Known.{IsGraph, portfolio_with};
+ghost use Rattle.act_portfolio.specs.Fit.{first_unfit};
+ghost use Rattle.act_portfolio.specs.Reading.{ordered};
+ghost use Rattle.act_refusal.specs.Steps.{plans_from};
+ghost use Rattle.act_refusal.specs.Refusal.{refusal_of};
 
-use crate::binding::{bindings, bound_terms};
-use crate::cones::all_cones;
-use crate::counts::Contracts;
-use crate::fault::PortfolioFault;
-use crate::links::Listing;
-use crate::order::{evaluation_order, ranks};
-use crate::plans::{all_terms, plan_contracts};
 use crate::portfolio::Portfolio;
-use crate::shadows::{child_lists, shadow_numbers, shadows};
-use act_model::{MOST_CONTRACTS, Names, Plan, Terms};
-use act_num::NoMemory;
+use act_binding::{Listing, child_lists, shadow_numbers, shadows, terms_of};
+use act_cones::{Contracts, all_cones, ranks};
+use act_model::{MOST_CONTRACTS, Names, Terms};
+use act_refusal::{PortfolioFault, evaluation_order, plans_of};
 use act_terms::NamedTerms;
 use std::alloc::Global;
 
@@ -105,42 +100,4 @@ pub(crate) fn bound_portfolio(
         cones,
         unused,
     })
-}
-
-/// The plans of contracts and of shadows behind them.
-fn plans_of(
-    alloc: Global,
-    named: &[NamedTerms],
-    shadows: &[Terms],
-) -> Result<Vec<Plan>, PortfolioFault>
-    requires contracts { All IsContract named.now }
-    requires built { All (λ t. IsBuilt t.kind) shadows.now }
-    requires few { length named.now + length shadows.now ≤ MOST_CONTRACTS }
-    ensures plans { IfOk result (λ plans. plans_from zero (map (λ c. c.terms) named.now ++ shadows.now) ≡ Ok plans.items) }
-    ensures refused { IfErr result (λ fault. IfSome (refusal_of fault) (λ refusal.
-        plans_from zero (map (λ c. c.terms) named.now ++ shadows.now) ≡ Err refusal)) }
-{
-    let terms = all_terms(alloc, named, shadows)?;
-    plan_contracts(alloc, &terms)
-}
-
-/// The terms of contracts, bound to what their references are to, and behind them those of their shadows.
-fn terms_of(
-    alloc: Global,
-    names: &Names,
-    named: Vec<NamedTerms>,
-    numbers: &[u32],
-    shadows: Vec<Terms>,
-    plans: &[Plan],
-) -> Result<Vec<Terms>, NoMemory>
-    requires names { names.now.contracts ≡ map (λ c. c.id) named.items }
-    requires planned { HavePlans (map (λ c. c.terms) named.items) plans.now }
-    requires few { length named.items ≤ MOST_CONTRACTS }
-    requires numbers { length numbers.now ≡ length named.items }
-    ensures { IfOk result (λ terms. terms.items
-        ≡ map (bound (listing_of named.items) plans.now) (zip named.items numbers.now) ++ shadows.items) }
-{
-    let listing = Listing::new(names, &named);
-    let bindings = bindings(alloc, &listing, &named, numbers, plans)?;
-    bound_terms(alloc, named, bindings, shadows)
 }

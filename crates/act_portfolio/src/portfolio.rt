@@ -8,20 +8,20 @@ ghost use Rattle.act_model.specs.declared.terms.Terms.{Terms};
 ghost use Rattle.act_profile.specs.Plan.{plan_of};
 ghost use Rattle.act_refs.specs.Ordered.{order_of};
 ghost use Rattle.act_refs.specs.Path.{IsChild};
-ghost use Rattle.act_portfolio.specs.Cones.{most_counted, most_weight, reads_of};
-ghost use Rattle.act_portfolio.specs.Counts.{cone_sum, scheduled_count};
+ghost use Rattle.act_cones.specs.Cones.{most_counted, most_weight, reads_of};
+ghost use Rattle.act_cones.specs.Counts.{cone_sum, scheduled_count};
 ghost use Rattle.act_portfolio.specs.Reading.{portfolio_of};
-ghost use Rattle.act_portfolio.specs.Refusal.{refusal_of};
+ghost use Rattle.act_refusal.specs.Refusal.{refusal_of};
 ghost use Rattle.std.specs.Prelude.{List};
 ghost use Rattle.act_model.specs.Run.{EventPlan};
 ghost use Rattle.act_model.specs.declared.observed.Obs.{Obs};
 ghost use Rattle.act_profile.specs.Run.{Contracts, deepest, run_of, run_over};
 
-use crate::cones::Cones;
-use crate::fault::PortfolioFault;
 use crate::reading::read_portfolio;
+use act_cones::Cones;
 use act_model::{MOST_BYTES, MOST_CONTRACTS, Names, Plan, Reads, Terms};
 use act_num::NoMemory;
+use act_refusal::PortfolioFault;
 use std::alloc::Global;
 use std::marker::Model;
 

@@ -4,21 +4,22 @@ ghost use Rattle.std.specs.List.{All};
 ghost use Rattle.serde_json.specs.Data.{Data};
 ghost use Rattle.act_json.specs.Tree.{data_in, json_as_is};
 ghost use Rattle.act_terms.specs.Inline.{in_portfolio_order};
-ghost use Rattle.act_portfolio.specs.Known.{AreChecked, IsContract, IsMadeOf, checked, count_with_shadows};
-ghost use Rattle.act_portfolio.specs.Links.{first_unfit};
+ghost use Rattle.act_portfolio.specs.Known.{AreChecked, IsMadeOf, checked};
+ghost use Rattle.act_refusal.specs.Known.{IsContract, count_with_shadows};
+ghost use Rattle.act_portfolio.specs.Fit.{first_unfit};
 ghost use Rattle.act_portfolio.specs.Reading.{portfolio_in, portfolio_listed, portfolio_of};
-ghost use Rattle.act_portfolio.specs.Refusal.{refusal_of};
+ghost use Rattle.act_refusal.specs.Refusal.{refusal_of};
 
-use crate::contracts::{ContractsRead, read_contracts};
-use crate::fault::{PortfolioFault, refused};
+use crate::fit::references_fit;
 use crate::graph::{bound_portfolio, graph_of};
-use crate::limit::within_limit;
-use crate::links::{Listing, references_fit};
-use crate::names::name_contracts;
-use crate::plans::unused_lists;
 use crate::portfolio::Portfolio;
+use act_binding::Listing;
 use act_json::{JsonFault, is_quoted, items_of, quote, read_tree};
 use act_model::{MOST_BYTES, MOST_CONTRACTS, Names};
+use act_refusal::{
+    ContractsRead, PortfolioFault, name_contracts, read_contracts, refused, unused_lists,
+    within_limit,
+};
 use act_terms::{ContractValue, NamedTerms, in_portfolio_order};
 use json::{Scratch, Value};
 use std::alloc::Global;

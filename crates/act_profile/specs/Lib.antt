@@ -3,6 +3,7 @@ pub mod Built
 pub mod Contract
 pub mod Credit
 pub mod Dates
+pub mod DayOrder
 pub mod Equity
 pub mod Events
 pub mod Exercise

@@ -20,7 +20,7 @@ use Rattle.act_profile.specs.Events.{events_of, events_of_children, events_obser
 use Rattle.act_profile.specs.Exercise.{with_settlement}
 use Rattle.act_profile.specs.Order.{counts, ends, in_order, is_type, precedes, up_to_end}
 use Rattle.act_profile.specs.Run.{rows_from}
-use Rattle.act_swap.specs.Children.{AreInDayOrder}
+use Rattle.act_profile.specs.DayOrder.{AreInDayOrder}
 use Rattle.act_run.proofs.TakenRows.{Step, taken_rows}
 
 -- each event is on that day or later

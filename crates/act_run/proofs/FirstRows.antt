@@ -7,7 +7,7 @@ use Rattle.std.proofs.lemmas.Int.{ints}
 use Rattle.std.proofs.lemmas.List.{take-append-drop}
 use Rattle.std.proofs.lemmas.List.Elements.{filter-append}
 use Rattle.act_model.specs.declared.run.Row.{Row}
-use Rattle.act_swap.specs.Children.{AreInDayOrder}
+use Rattle.act_profile.specs.DayOrder.{AreInDayOrder}
 use Rattle.act_run.proofs.DayOrder.{RowsAscend, RowsFrom}
 
 -- ---- rows by their days, one by one

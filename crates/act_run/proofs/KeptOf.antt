@@ -7,7 +7,7 @@ use Rattle.act_model.specs.declared.run.Row.{Row}
 use Rattle.act_profile.specs.Kept.{KeptRows, kept_of}
 use Rattle.act_profile.specs.Stops.{comes_before, rows_before, stop_day}
 use Rattle.act_run.specs.Resuming.{BeginsWith, kept_by}
-use Rattle.act_swap.specs.Children.{AreInDayOrder}
+use Rattle.act_profile.specs.DayOrder.{AreInDayOrder}
 use Rattle.act_run.proofs.FirstRows.{early_first}
 
 -- ---- which it is

@@ -29,7 +29,7 @@ use Rattle.act_profile.specs.Steps.{currency_of, factor_for, guarantee_step_by, 
 use Rattle.act_profile.specs.Stops.{chosen_close, comes_before, is_until, stop_day, stopped_at_credit, stopped_by, stopped_on, under_stop}
 use Rattle.act_run.specs.Limits.{before_limit, closed_by, closed_so, limit_at_credit, limit_of, limit_until, limited}
 use Rattle.act_run.specs.declared.limit.Limit.{Limit}
-use Rattle.act_swap.specs.Children.{AreInDayOrder}
+use Rattle.act_profile.specs.DayOrder.{AreInDayOrder}
 use Rattle.act_run.proofs.DayOrder.{AreFrom, Ascend, RowsFrom, ascend-take, events_ascend, in_day_order, none_in_day_order, rows_are_from}
 use Rattle.act_run.proofs.TakenRows.{Step, taken_rows}
 

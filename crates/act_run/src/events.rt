@@ -9,7 +9,7 @@ ghost use Rattle.act_profile.specs.Contract.{observed_as};
 ghost use Rattle.act_profile.specs.Events.{event_observed, events_by, events_of, events_of_entry, events_scheduled, prepayment_events, with_exercise};
 ghost use Rattle.act_profile.specs.Plan.{plan_of};
 ghost use Rattle.act_run.specs.Planned.{is_planned};
-ghost use Rattle.act_swap.specs.Children.{RunsAreInDayOrder};
+ghost use Rattle.act_profile.specs.DayOrder.{RunsAreInDayOrder};
 
 use act_credit::guarantee_events;
 use act_date::Day;

@@ -3,7 +3,7 @@ ghost use Rattle.std.specs.Prelude.{◌≡◌, ◌≤◌, false, int_lt, length,
 ghost use Rattle.std.specs.List.{filter};
 ghost use Rattle.act_profile.specs.Kept.{kept_of};
 ghost use Rattle.act_run.specs.Resuming.{kept_by};
-ghost use Rattle.act_swap.specs.Children.{AreInDayOrder};
+ghost use Rattle.act_profile.specs.DayOrder.{AreInDayOrder};
 
 use crate::limit::{comes_before, stop_day};
 use act_date::Day;

@@ -10,7 +10,7 @@ ghost use Rattle.act_profile.specs.Run.{run_over};
 ghost use Rattle.act_profile.specs.Stops.{chosen_close};
 ghost use Rattle.act_run.specs.Limits.{before_limit, closed_by, limit_of};
 ghost use Rattle.act_run.specs.Resuming.{BeginsWith, IsOver};
-ghost use Rattle.act_swap.specs.Children.{AreInDayOrder, RunsAreInDayOrder};
+ghost use Rattle.act_profile.specs.DayOrder.{AreInDayOrder, RunsAreInDayOrder};
 
 use crate::events::{events_of, observed_as, planned_events};
 use crate::kept::kept_count;

@@ -14,10 +14,10 @@ use Rattle.act_profile.specs.Answers.{answers_of}
 use Rattle.act_turn.specs.Journal.{entries_of}
 use Rattle.act_turn.specs.Standing.{IsFree, Standing, own_entries}
 use Rattle.act_board.specs.Entries.{author_of, list_of}
-use Rattle.act_board.specs.History.{History, journal_of}
-use Rattle.act_board.specs.Legal.{IsSound}
+use Rattle.act_history.specs.History.{History, journal_of}
+use Rattle.act_history.specs.Legal.{IsSound}
 use Rattle.act_board.specs.declared.history.Entry.{Entry}
-use Rattle.act_board.proofs.Places.{get-take}
+use Rattle.act_history.proofs.Places.{get-take}
 use Rattle.act_desk.specs.Desk.{Desk}
 use Rattle.act_desk.specs.Making.{HasMade}
 use Rattle.act_session.specs.Playing.{AreOwn, ArePlayable, IsPlayed, first_pass, quotas_of, replies_of}

@@ -12,12 +12,12 @@ use Rattle.act_model.specs.declared.journal.Step.TheVariants as step
 use Rattle.act_model.proofs.AsksInTurn.{asks_from, asks_in_turn}
 use Rattle.act_turn.specs.Journal.{entries_of, is_by}
 use Rattle.act_board.specs.Entries.{author_of, caller_of}
-use Rattle.act_board.specs.History.{History, before, is_collect_by, is_leave_by, item_of, journal_of}
-use Rattle.act_board.specs.Legal.{IsLegal, IsSound}
+use Rattle.act_history.specs.History.{History, before, is_collect_by, is_leave_by, item_of, journal_of}
+use Rattle.act_history.specs.Legal.{IsLegal, IsSound}
 use Rattle.act_board.specs.declared.history.Entry.{Entry}
 use Rattle.act_board.specs.declared.history.Entry.TheVariants as entry
-use Rattle.act_board.specs.declared.mark.Mark.{Mark}
-use Rattle.act_board.specs.declared.mark.Mark.TheVariants as mark
+use Rattle.act_history.specs.declared.mark.Mark.{Mark}
+use Rattle.act_history.specs.declared.mark.Mark.TheVariants as mark
 use Rattle.act_session.specs.Interleaving.{items_by}
 use Rattle.act_session.proofs.Lists.{All-by_place, any-within, count-within}
 

@@ -14,12 +14,12 @@ use Rattle.act_portfolio.specs.Reading.{Accepted}
 use Rattle.act_turn.specs.Journal.{entries_of as own_of}
 use Rattle.act_turn.specs.Standing.{Standing, own_entries}
 use Rattle.act_board.specs.Entries.{author_of, list_of}
-use Rattle.act_board.specs.History.{History, asks_by, collected_by, entries_of, has_left, is_collect_by, is_leave_by, item_of, journal_of}
+use Rattle.act_history.specs.History.{History, asks_by, collected_by, entries_of, has_left, is_collect_by, is_leave_by, item_of, journal_of}
 use Rattle.act_board.specs.declared.history.Entry.{Entry}
 use Rattle.act_board.specs.declared.history.Entry.TheVariants as entry
-use Rattle.act_board.specs.declared.mark.Mark.{Mark}
-use Rattle.act_board.specs.declared.mark.Mark.TheVariants as mark
-use Rattle.act_board.proofs.Going.{any-yes, count-not}
+use Rattle.act_history.specs.declared.mark.Mark.{Mark}
+use Rattle.act_history.specs.declared.mark.Mark.TheVariants as mark
+use Rattle.act_history.proofs.Going.{any-yes, count-not}
 use Rattle.act_desk.specs.Desk.{Desk}
 use Rattle.act_desk.specs.Making.{HasMade, item_by}
 use Rattle.act_desk.specs.Step.{opening}

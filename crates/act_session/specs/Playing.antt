@@ -10,8 +10,8 @@ use Rattle.act_profile.specs.Answers.{answer_to}
 use Rattle.act_portfolio.specs.Reading.{Accepted}
 use Rattle.act_turn.specs.Standing.{IsFree, Standing, first_standing}
 use Rattle.act_board.specs.Entries.{list_of}
-use Rattle.act_board.specs.History.{History, asks_by, collected_by, entries_of, has_left, journal_of}
-use Rattle.act_board.specs.Legal.{IsSound, most_asks, most_callers}
+use Rattle.act_history.specs.History.{History, asks_by, collected_by, entries_of, has_left, journal_of}
+use Rattle.act_history.specs.Legal.{IsSound, most_asks, most_callers}
 use Rattle.act_board.specs.declared.history.Entry.{Entry}
 use Rattle.act_desk.specs.Desk.{Desk}
 use Rattle.act_desk.specs.Making.{HasMade, appends, asks, asks_known}

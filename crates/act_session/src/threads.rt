@@ -4,7 +4,7 @@ ghost use Rattle.std.specs.Arc.{arc_value};
 ghost use Rattle.act_profile.specs.Answers as asked;
 ghost use Rattle.act_turn.specs.Standing.{AreNumbered};
 ghost use Rattle.act_board.specs.Entries.{list_of};
-ghost use Rattle.act_board.specs.History.{journal_of};
+ghost use Rattle.act_history.specs.History.{journal_of};
 ghost use Rattle.act_desk.specs.Step.{opening};
 ghost use Rattle.act_session.specs.Playing as playing;
 ghost use Rattle.act_session.specs.Playing.{AreOwn, ArePlayable, HasPlayed, IsPlayed, first_pass, lines_of, replies_of};

@@ -10,7 +10,7 @@ use Rattle.act_model.specs.declared.event.Event.{Event}
 use Rattle.act_model.specs.declared.terms.Common.{Common}
 use Rattle.act_model.specs.declared.terms.Swaps.{Swaps}
 use Rattle.act_profile.specs.Legs.{PlacedRow, child, first_leg, netted_or_alone, no_rows, partner, second_leg, swaps_events, taken_rows, unless_netted}
-use Rattle.act_swap.specs.Children.{AreInDayOrder, RunsAreInDayOrder}
+use Rattle.act_profile.specs.DayOrder.{AreInDayOrder, RunsAreInDayOrder}
 use Rattle.act_swap.specs.Netting.{events_beside, netted_events, row_events}
 use Rattle.act_swap.specs.declared.netting.Side.TheVariants.{First, Second}
 

@@ -16,7 +16,7 @@ use Rattle.act_model.specs.declared.run.Row.{Row}
 use Rattle.act_profile.specs.Legs.{PlacedRow, earlier_like, is_netted_with, placed_rows, taken_rows}
 use Rattle.act_profile.specs.Order.{is_type}
 use Rattle.act_swap.proofs.Walks.{next_at}
-use Rattle.act_swap.specs.Children.{AreInDayOrder}
+use Rattle.act_profile.specs.DayOrder.{AreInDayOrder}
 use Rattle.act_swap.specs.declared.netting.Starts.{Starts}
 use Rattle.act_swap.specs.Netting.{AreBefore, earlier_rows, is_like, is_taken, partner_place}
 

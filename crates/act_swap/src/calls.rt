@@ -6,7 +6,7 @@ ghost use Rattle.act_model.specs.Kind.{type_of};
 ghost use Rattle.act_profile.specs.Events.{events_of_children};
 ghost use Rattle.act_profile.specs.Plan.{plan_of};
 ghost use Rattle.act_profile.specs.Steps.{currency_of, currency_of_row, start_of, step_of};
-ghost use Rattle.act_swap.specs.Children.{RunsAreInDayOrder};
+ghost use Rattle.act_profile.specs.DayOrder.{RunsAreInDayOrder};
 ghost use Rattle.act_swap.specs.Kinds.{SwapLeadsOn, is_over_children, is_swap_or_cap};
 
 use crate::capfl_table::{CapTable, capfl_row};

@@ -4,7 +4,7 @@ ghost use Rattle.std.specs.Prelude.{◌≡◌, ℤ, true, ◌<◌, ◌≤◌, �
 ghost use Rattle.std.specs.Arc.{arc_value};
 ghost use Rattle.std.specs.List.{count_by, filter};
 ghost use Rattle.act_profile.specs.Legs.{first_leg, is_netted_with, leg_event, net_event, placed_rows, second_leg, swaps_events, taken_rows};
-ghost use Rattle.act_swap.specs.Children.{AreInDayOrder, RunsAreInDayOrder};
+ghost use Rattle.act_profile.specs.DayOrder.{AreInDayOrder, RunsAreInDayOrder};
 ghost use Rattle.act_swap.specs.Netting.{AreBefore, earlier_rows, is_like, is_taken, netted_events, partner_place, row_events};
 
 use crate::children::ChildRun;

@@ -1,5 +1,7 @@
 pub mod Among
+pub mod Bounds
 pub mod CodeNames
+pub mod ContractIds
 pub mod CreditEvents
 pub mod Elements
 pub mod Given

@@ -20,6 +20,10 @@ pub given_up : {A : Type 0} (result : Result A TermsFault) (fault : TermsFault) 
 given_up (Ok value) fault is = absurd is
 given_up (Err other) fault is = ap Err is
 
+pub given_up_field : {A : Type 0} (result : Result A JsonFault) (fault : JsonFault) → IsErrAnd result (λ f. f ≡ fault) → result ≡ Err fault
+given_up_field (Ok value) fault is = absurd is
+given_up_field (Err other) fault is = ap Err is
+
 -- ---- texts, which are seen as their bytes
 
 pub needed_text : {A B : Type 0} (f : A → B) (term : List ℕ) (found : Result (Option A) JsonFault) (said : Result (Option B) JsonFault) (value : A)
@@ -47,6 +51,13 @@ pub optional_fault : {A B : Type 0} (f : A → B) (term : List ℕ) (found : Res
 optional_fault f term (Ok given) said fault e read same = absurd (cc)
 optional_fault f term (Err other) said fault e read same =
     ap (optional term) (sym (same (λ want. read (let g : fault_at term other ≡ NoMemory = ap (fault_of_json term) want in cc)))) ∙ (cc)
+
+pub needed_fault : {A B : Type 0} (f : A → B) (term : List ℕ) (found : Result (Option A) JsonFault) (said : Result (Option B) JsonFault) (fault : TermsFault)
+    → Err fault ≡ needed term found → fault ≢ NoMemory → (found ≢ Err json.NoMemory → result_map (option_map f) found ≡ said) → needed term said ≡ Err fault
+needed_fault f term (Ok None) said fault e read same = ap (needed term) (sym (same (λ want. cc))) ∙ (cc)
+needed_fault f term (Ok (Some value)) said fault e read same = absurd (cc)
+needed_fault f term (Err other) said fault e read same =
+    ap (needed term) (sym (same (λ want. read (let g : fault_at term other ≡ NoMemory = ap (fault_of_json term) want in cc)))) ∙ (cc)
 
 -- a field that may be left out, seen as its bytes
 pub optional_seen : {A B : Type 0} (f : A → B) (term : List ℕ) (found : Result (Option A) JsonFault) (said : Result (Option B) JsonFault)

@@ -111,7 +111,8 @@ pub(crate) fn day_after(first: Day, contract: &Object, term: &str) -> Result<Opt
 {
     match contract.day(term)? {
         Some(found) if found <= first => Err(JsonFault::BadValue),
-        found => Ok(found),
+        Some(found) => Ok(Some(found)),
+        None => Ok(None),
     }
 }
 
@@ -122,7 +123,8 @@ pub(crate) fn not_negative(contract: &Object, term: &str) -> Result<Option<Fixed
 {
     match contract.decimal(term)? {
         Some(found) if found < Fixed::ZERO => Err(JsonFault::BadValue),
-        found => Ok(found),
+        Some(found) => Ok(Some(found)),
+        None => Ok(None),
     }
 }
 
@@ -133,6 +135,7 @@ pub(crate) fn positive(contract: &Object, term: &str) -> Result<Option<Fixed>, J
 {
     match contract.decimal(term)? {
         Some(found) if found <= Fixed::ZERO => Err(JsonFault::BadValue),
-        found => Ok(found),
+        Some(found) => Ok(Some(found)),
+        None => Ok(None),
     }
 }

@@ -2,7 +2,7 @@
 use Rattle.std.proofs.Common.{◌≡◌, ℕ, List, [], ◌∷◌, length, Option, None, Some, Result, Ok, Err, IfOk, IfSome, IsSomeAnd, inl, inr, refl, sym, ap, subst, ◌∙◌}
 use Rattle.std.specs.Prelude.{IsSome, ⊤}
 use Rattle.std.proofs.lemmas.Option.{IfSome_then}
-use Rattle.act_board.specs.History.{History, journal_of}
+use Rattle.act_history.specs.History.{History, journal_of}
 use Rattle.act_gen.specs.Portfolio.{portfolio_text}
 use Rattle.act_io.specs.Put.{written_after}
 use Rattle.act_model.specs.declared.journal.Line.{Line}

@@ -4,7 +4,7 @@ use Rattle.std.specs.List.{flat_map}
 use Rattle.std.proofs.lemmas.List.{drop_all}
 use Rattle.std.proofs.lemmas.Option.{get_or_from_slice_get, slice_get_read, slice_get_within, slice_get-get_or, unwrap_or-slice_get}
 use Rattle.act_model.specs.declared.terms.Terms.{Terms}
-use Rattle.act_portfolio.specs.Counts.{scheduled_count}
+use Rattle.act_cones.specs.Counts.{scheduled_count}
 use Rattle.act_portfolio.specs.Reading.{Accepted}
 use Rattle.act_model.specs.Kind.{type_name, type_of}
 use Rattle.act_text.specs.Lines.{name_of}

@@ -1,7 +1,7 @@
 -- The status that a command of the desk ends with.
 use Rattle.std.proofs.Common.{◌≡◌, ℕ, ◌+◌, List, [], length, Option, None, Some, Result, Ok, Err, IfOk, IfSome, IsSomeAnd, IsOkAnd, inl, inr, ◌⊎◌, refl, sym, ap, subst, ◌∙◌, arith}
 use Rattle.std.proofs.lemmas.Option.{IfSome_then}
-use Rattle.act_board.specs.History.{History}
+use Rattle.act_history.specs.History.{History}
 use Rattle.act_io.specs.Put.{written_after}
 use Rattle.act_top.specs.Asked.{Asks}
 use Rattle.act_top.specs.Desk.{DeskJob, EndsRun, EndsWhole, IsBoardOf, IsOutcome}

@@ -1,7 +1,7 @@
 -- What a run at the desk comes to.
 use Rattle.std.proofs.Common.{◌≡◌, ℕ, Bool, true, false, if◌then◌else◌, List, Option, None, Some, Ok, Err, refl, sym, ap}
 use Rattle.std.specs.List.{list_all}
-use Rattle.act_board.specs.History.{History, journal_of}
+use Rattle.act_history.specs.History.{History, journal_of}
 use Rattle.act_io.specs.Put.{written_after}
 use Rattle.act_model.specs.declared.journal.Item.{Item}
 use Rattle.act_model.specs.Answer.{Reply}

@@ -7,8 +7,8 @@ use Rattle.std.proofs.lemmas.Bool.{cases_Bool, cases_eq}
 use Rattle.std.proofs.lemmas.List.Elements.{All-head, All-push, All-tail, All-take}
 use Rattle.std.proofs.lemmas.List.{length-set, length-take, take_all, take-append-le, take-take}
 use Rattle.std.proofs.lemmas.Option.{get_or_from_slice_get, same_Some, slice_get-get_or, slice_get-map, slice_get_within}
-use Rattle.act_board.specs.History.{History, entries_of, version_of}
-use Rattle.act_board.proofs.Places.{get-set, get-set_other}
+use Rattle.act_history.specs.History.{History, entries_of, version_of}
+use Rattle.act_history.proofs.Places.{get-set, get-set_other}
 use Rattle.act_model.specs.Answer.{Reply}
 use Rattle.act_model.specs.Names.{NameLists}
 use Rattle.act_model.specs.Run.{Stream}
@@ -25,7 +25,7 @@ use Rattle.act_print.specs.Text.{block_text}
 use Rattle.act_run.proofs.DayOrder.{none_in_day_order}
 use Rattle.act_run.proofs.FirstRows.{early_first}
 use Rattle.act_run.proofs.Limited.{run_in_day_order}
-use Rattle.act_swap.specs.Children.{AreInDayOrder}
+use Rattle.act_profile.specs.DayOrder.{AreInDayOrder}
 use Rattle.act_text.specs.Kept.{AreWrittenWith, Lines}
 use Rattle.act_text.specs.Lines.{row_text}
 use Rattle.act_top.proofs.Blocks.{block-parts}

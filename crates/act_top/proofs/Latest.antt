@@ -5,11 +5,11 @@ use Rattle.std.proofs.lemmas.Bool.{and_from, cases_order, eqb-true}
 use Rattle.std.proofs.lemmas.List.Elements.{filter_map-append}
 use Rattle.std.proofs.lemmas.List.Sums.{fold-append}
 use Rattle.std.proofs.lemmas.Option.{same_Some}
-use Rattle.act_board.specs.History.{History, and_then, has_result, is_finish_of}
-use Rattle.act_board.specs.Latest.{cached_version, finished_version}
-use Rattle.act_board.specs.declared.mark.Mark.{Mark}
-use Rattle.act_board.specs.declared.mark.Mark.TheVariants as mark
-use Rattle.act_board.proofs.Reaching.{either, left-so, right-so}
+use Rattle.act_history.specs.History.{History, and_then, has_result, is_finish_of}
+use Rattle.act_keeping.specs.Latest.{cached_version, finished_version}
+use Rattle.act_history.specs.declared.mark.Mark.{Mark}
+use Rattle.act_history.specs.declared.mark.Mark.TheVariants as mark
+use Rattle.act_history.proofs.Reaching.{either, left-so, right-so}
 
 -- ---- the greatest of some numbers
 

@@ -16,15 +16,15 @@ use Rattle.act_refs.proofs.Leading.{goes_on-from_path}
 use Rattle.act_refs.proofs.Ordering.{order_of-short}
 use Rattle.act_refs.proofs.Paths.{HasPath-cons, HasPath-none}
 use Rattle.act_board.specs.Calls.{Claims, IsOf, after_finish}
-use Rattle.act_board.specs.Work.{Work, outcome, version}
+use Rattle.act_keeping.specs.Work.{Work, outcome, version}
 use Rattle.act_board.specs.declared.outcome.Claim.TheVariants as claim
-use Rattle.act_board.specs.History.{History, IsPresent, IsWanted, and_then, appended_by, asks_by, collected_by, entries_of, has_result, is_append_by, is_claim_of, is_claimed, is_collect_by, is_finish_of, is_give_up, is_leave_by, journal_of, open_asks, version_of, was_claimed}
-use Rattle.act_board.specs.Latest.{cached_version, kept_at}
-use Rattle.act_board.specs.Legal.{IsClaimable, NoneIsClaimable}
-use Rattle.act_board.specs.declared.mark.Mark.TheVariants as mark
-use Rattle.act_board.proofs.Going.{any-not, any-yes, asks-same, count-not, entries-same, journal-same, open-same}
-use Rattle.act_board.proofs.Pairs.{claimed-same, result-same, result-stays}
-use Rattle.act_board.proofs.Reaching.{reached-child}
+use Rattle.act_history.specs.History.{History, IsPresent, IsWanted, and_then, appended_by, asks_by, collected_by, entries_of, has_result, is_append_by, is_claim_of, is_claimed, is_collect_by, is_finish_of, is_give_up, is_leave_by, journal_of, open_asks, version_of, was_claimed}
+use Rattle.act_keeping.specs.Latest.{cached_version, kept_at}
+use Rattle.act_history.specs.Legal.{IsClaimable, NoneIsClaimable}
+use Rattle.act_history.specs.declared.mark.Mark.TheVariants as mark
+use Rattle.act_history.proofs.Going.{any-not, any-yes, asks-same, count-not, entries-same, journal-same, open-same}
+use Rattle.act_keeping.proofs.Pairs.{claimed-same, result-same, result-stays}
+use Rattle.act_history.proofs.Reaching.{reached-child}
 use Rattle.act_top.specs.Driven.{GoesOn, IsAskedFor, IsLater, IsQuiet, OnlyWorks, made_since, rows_left, rows_since}
 use Rattle.act_top.specs.Work.{fresh_rows}
 use Rattle.act_top.proofs.Latest.{cached-finished, cached-has, cached-other, cached-same}

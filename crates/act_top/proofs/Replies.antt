@@ -3,7 +3,7 @@ use Rattle.std.proofs.Common.{◌≡◌, ℕ, ◌+◌, ◌≤◌, Bool, true, fa
 use Rattle.std.specs.Prelude.{◌==◌}
 use Rattle.std.specs.List.{All, range_with_len}
 use Rattle.std.proofs.lemmas.List.Elements.{All-cons, All-map, All-nil}
-use Rattle.act_board.specs.History.{History, entries_of, journal_of, version_of}
+use Rattle.act_history.specs.History.{History, entries_of, journal_of, version_of}
 use Rattle.act_model.specs.Asks.{asks_of, caller_asks}
 use Rattle.act_model.specs.Journal.{book_of, contracts_of}
 use Rattle.act_model.specs.Names.{NameLists}

@@ -24,14 +24,14 @@ use Rattle.act_profile.specs.Reads.{is_in}
 use Rattle.act_profile.specs.Run.{Contracts, run_of}
 use Rattle.act_refs.specs.Ordered.{order_of}
 use Rattle.act_refs.specs.Path.{IsChild}
-use Rattle.act_board.specs.History.{History, IsWanted, and_then, appended_by, asks_by, collected_by, entries_of, has_result, is_append_by, is_collect_by, is_give_up, is_leave_by, journal_of, open_asks, version_of}
-use Rattle.act_board.specs.Latest.{cached_version}
-use Rattle.act_board.specs.Legal.{HasQuota, IsOldest, IsReady, NoneIsClaimable}
-use Rattle.act_board.specs.declared.mark.Mark.{Mark}
-use Rattle.act_board.specs.declared.mark.Mark.TheVariants as mark
-use Rattle.act_board.proofs.Going.{any-not, asks-append, asks-own, asks-same, count-not, count-yes, entries-ask, entries-more, entries-same, journal-more, journal-same, open-less, open-more, open-same}
-use Rattle.act_board.proofs.Pairs.{claimed-same, result-same}
-use Rattle.act_board.proofs.Reaching.{left-so, reached-self, right-so}
+use Rattle.act_history.specs.History.{History, IsWanted, and_then, appended_by, asks_by, collected_by, entries_of, has_result, is_append_by, is_collect_by, is_give_up, is_leave_by, journal_of, open_asks, version_of}
+use Rattle.act_keeping.specs.Latest.{cached_version}
+use Rattle.act_history.specs.Legal.{HasQuota, IsOldest, IsReady, NoneIsClaimable}
+use Rattle.act_history.specs.declared.mark.Mark.{Mark}
+use Rattle.act_history.specs.declared.mark.Mark.TheVariants as mark
+use Rattle.act_history.proofs.Going.{any-not, asks-append, asks-own, asks-same, count-not, count-yes, entries-ask, entries-more, entries-same, journal-more, journal-same, open-less, open-more, open-same}
+use Rattle.act_keeping.proofs.Pairs.{claimed-same, result-same}
+use Rattle.act_history.proofs.Reaching.{left-so, reached-self, right-so}
 use Rattle.act_top.specs.Driven.{Adds, AreLatest, IsAnswered, IsDriven, IsLater, IsQuiet, OnlyWorks, is_reached_by, made_since, next_ask, rows_left, rows_since}
 use Rattle.act_top.specs.Output.{ends_well, items_of}
 use Rattle.act_top.specs.Work.{ask_work, asks_work, fresh_rows, last_version, reaches, work_of}

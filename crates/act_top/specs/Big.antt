@@ -1,6 +1,6 @@
 -- What the words of the large run come to: the portfolio and the script that the generator makes of a number, run at the desk. This profile's own.
 use Rattle.std.specs.Prelude.{◌≡◌, ◌≢◌, ◌⊎◌, ◌↔◌, ℕ, List, [], ◌∷◌, length, Option, Some, None, IfSome, IsSome, IsSomeAnd, IsOkAnd, Result, Ok, Err, ⊤}
-use Rattle.act_board.specs.History.{History, journal_of}
+use Rattle.act_history.specs.History.{History, journal_of}
 use Rattle.act_gen.specs.Portfolio.{portfolio_text}
 use Rattle.act_gen.specs.Script.{script_text}
 use Rattle.act_io.specs.Faults.{Rose, next_count}

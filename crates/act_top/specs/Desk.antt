@@ -2,7 +2,7 @@
 use Rattle.std.specs.Prelude.{◌≡◌, ℕ, ◌≤◌, List, [], ◌∷◌, length, map, Option, Some, None, option_map, option_and_then, Result, Ok, Err, ⊤}
 use Rattle.std.specs.List.{enumerate_from, flat_map}
 use Rattle.act_io.specs.Put.{written_after}
-use Rattle.act_board.specs.History.{History, journal_of}
+use Rattle.act_history.specs.History.{History, journal_of}
 use Rattle.act_model.specs.declared.journal.Item.{Item}
 use Rattle.act_model.specs.declared.journal.Line.{Line}
 use Rattle.act_portfolio.specs.Reading.{Accepted}

@@ -1,10 +1,10 @@
 -- A board that one caller has to itself, and what one thread makes of it. This profile's own.
 use Rattle.std.specs.Prelude.{◌≡◌, ◌⊎◌, ℕ, ◌+◌, ◌<◌, ◌≤◌, ◌&&◌, not, cond, Bool, true, false, List, [], ◌∷◌, ◌++◌, length, Some}
 use Rattle.std.specs.List.{Contains, range_with_len, sum_by}
-use Rattle.act_board.specs.History.{History, and_then, appended_by, asks_by, collected_by, entries_of, has_left, has_result, is_given_up, journal_of, open_asks, version_of, was_claimed}
-use Rattle.act_board.specs.Latest.{cached_version}
-use Rattle.act_board.specs.Legal.{IsClaimable, NoneIsClaimable}
-use Rattle.act_board.specs.declared.mark.Mark.TheVariants as mark
+use Rattle.act_history.specs.History.{History, and_then, appended_by, asks_by, collected_by, entries_of, has_left, has_result, is_given_up, journal_of, open_asks, version_of, was_claimed}
+use Rattle.act_keeping.specs.Latest.{cached_version}
+use Rattle.act_history.specs.Legal.{IsClaimable, NoneIsClaimable}
+use Rattle.act_history.specs.declared.mark.Mark.TheVariants as mark
 use Rattle.act_model.specs.Journal.{book_of}
 use Rattle.act_model.specs.declared.asks.Asking.{Asking}
 use Rattle.act_model.specs.declared.journal.Asked.{Asked}

@@ -1,6 +1,6 @@
 -- How a command ends: what the two top calls say of their words, each as one word. This profile's own.
 use Rattle.std.specs.Prelude.{◌≡◌, ◌≢◌, ◌⊎◌, ◌↔◌, ℕ, ◌+◌, ◌||◌, Bool, false, List, [], ◌∷◌, Option, None, IfSome, IsSome, IsSomeAnd, IsOkAnd, bytes_eq, codes}
-use Rattle.act_board.specs.History.{History}
+use Rattle.act_history.specs.History.{History}
 use Rattle.act_io.specs.Faults.{Rose, next_count}
 use Rattle.act_io.specs.Put.{written_after}
 use Rattle.act_top.specs.Asked.{Asks, AsksFor, AsksNoScript}

@@ -1,13 +1,13 @@
 -- Which lines that are kept are known to be those of blocks. This profile's own.
 use Rattle.std.specs.Prelude.{◌≡◌, ◌≢◌, ◌<◌, ◌≤◌, ◌⊎◌, ℕ, ℤ, List, [], length, take, Option, None, Some, IfSome}
 use Rattle.std.specs.List.{All, slice_get}
-use Rattle.act_board.specs.History.{History, entries_of, version_of}
+use Rattle.act_history.specs.History.{History, entries_of, version_of}
 use Rattle.act_model.specs.Answer.{Reply}
 use Rattle.act_model.specs.Run.{Stream}
 use Rattle.act_print.specs.Text.{block_head_text}
 use Rattle.act_profile.specs.Kept.{kept_of}
 use Rattle.act_profile.specs.Run.{run_of}
-use Rattle.act_swap.specs.Children.{AreInDayOrder}
+use Rattle.act_profile.specs.DayOrder.{AreInDayOrder}
 use Rattle.act_text.specs.Kept.{AreWrittenWith, Lines}
 use Rattle.act_text.specs.Lines.{close_text}
 use Rattle.act_top.specs.declared.rows.Blocks.{Blocks}

@@ -14,9 +14,9 @@ use Rattle.act_model.specs.declared.observed.Obs.TheVariants.{Event, Rate}
 use Rattle.act_model.specs.declared.run.Close.{Close}
 use Rattle.act_model.specs.declared.run.Close.TheVariants.{End, Missing, Overflow}
 use Rattle.act_model.specs.declared.terms.Terms.{Terms}
-use Rattle.act_portfolio.specs.Counts.{cone_sum, scheduled_count}
+use Rattle.act_cones.specs.Counts.{cone_sum, scheduled_count}
 use Rattle.act_portfolio.specs.Reading.{Accepted, portfolio_of}
-use Rattle.act_portfolio.specs.Refusal.{Refusal}
+use Rattle.act_refusal.specs.Refusal.{Refusal}
 use Rattle.act_model.specs.Answer.{Reply}
 use Rattle.act_model.specs.Run.{Stream}
 use Rattle.act_print.specs.Printed.{printed_answer}

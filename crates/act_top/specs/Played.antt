@@ -1,6 +1,6 @@
 -- What a run at the desk comes to, by its status. This profile's own.
 use Rattle.std.specs.Prelude.{◌≡◌, ℕ, List, map, Option, None, IsSomeAnd, Ok}
-use Rattle.act_board.specs.History.{History, journal_of}
+use Rattle.act_history.specs.History.{History, journal_of}
 use Rattle.act_model.specs.Answer.{Reply}
 use Rattle.act_profile.specs.Answers.{answers_of}
 use Rattle.act_io.specs.Faults.{next_count}

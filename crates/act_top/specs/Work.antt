@@ -3,7 +3,7 @@
 use Rattle.std.specs.Prelude.{ℕ, ◌+◌, ◌-◌, ◌==◌, if◌then◌else◌, Bool, List, [], ◌∷◌, ◌++◌, length, take, Option, Some, None}
 use Rattle.std.specs.List.{filter, range_with_len, sum_by}
 use Rattle.std.specs.Option.{option_or}
-use Rattle.act_board.specs.Reached.{is_reached}
+use Rattle.act_history.specs.Reached.{is_reached}
 use Rattle.act_model.specs.Asks.{asks_of}
 use Rattle.act_model.specs.Journal.{book_of, contracts_of}
 use Rattle.act_model.specs.declared.asks.Asking.{Asking}

@@ -2,7 +2,7 @@
 //! same in both, so their lines are written again as they are kept.
 ghost use Rattle.std.specs.Prelude.{◌≡◌, ◌≤◌, ◌<◌, ℕ, ℤ, Option, Some, length, slice_get, take, IfOk, IfSome, IsSomeAnd, IsTrue};
 ghost use Rattle.std.specs.List.{All, list_all};
-ghost use Rattle.act_board.specs.History.{entries_of, version_of};
+ghost use Rattle.act_history.specs.History.{entries_of, version_of};
 ghost use Rattle.act_model.specs.Answer.{Reply};
 ghost use Rattle.act_model.specs.Run.{Stream};
 ghost use Rattle.act_print.specs.Printed.{printed_answer};

@@ -2,8 +2,8 @@
 ghost use Rattle.std.specs.Prelude.{◌≡◌, ◌≤◌, count_by, length, map, not, IfErr, IfOk, IfSome, ⊤};
 ghost use Rattle.std.specs.Arc.{arc_value};
 ghost use Rattle.std.specs.List.{All, list_all};
-ghost use Rattle.act_board.specs.History.{journal_of};
-ghost use Rattle.act_board.specs.Legal.{most_asks};
+ghost use Rattle.act_history.specs.History.{journal_of};
+ghost use Rattle.act_history.specs.Legal.{most_asks};
 ghost use Rattle.act_model.specs.Journal.{is_append};
 ghost use Rattle.act_model.specs.declared.journal.Line.{Line as StepLine};
 ghost use Rattle.act_script.specs.Asks.{line_lists};

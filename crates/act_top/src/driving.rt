@@ -1,16 +1,16 @@
 //! The board of a script, driven by one thread: the steps of the one caller, and the evaluations that it asks for.
 ghost use Rattle.std.specs.Prelude.{◌≡◌, ◌+◌, ◌<◌, ◌≤◌, List, [], false, length, take, true, IfOk, OnOk};
 ghost use Rattle.std.specs.Arc.{arc_value};
-ghost use Rattle.act_board.specs.History.{IsPresent, and_then, asks_by, entries_of, is_given_up, open_asks, version_of};
-ghost use Rattle.act_board.specs.Legal.{HasQuota, IsFull, IsOldest, IsReady, NoneIsClaimable, most_asks};
-ghost use Rattle.act_board.specs.declared.mark.Mark.TheVariants as mark;
+ghost use Rattle.act_history.specs.History.{IsPresent, and_then, asks_by, entries_of, is_given_up, open_asks, version_of};
+ghost use Rattle.act_history.specs.Legal.{HasQuota, IsFull, IsOldest, IsReady, NoneIsClaimable, most_asks};
+ghost use Rattle.act_history.specs.declared.mark.Mark.TheVariants as mark;
 ghost use Rattle.act_model.specs.Journal.{is_known};
 ghost use Rattle.act_model.specs.Observed.{is_entry};
 ghost use Rattle.act_model.specs.declared.asks.Asking.{Asking};
 ghost use Rattle.act_model.specs.declared.journal.Step.TheVariants as step;
 ghost use Rattle.act_model.specs.declared.observed.Obs.{Obs};
 ghost use Rattle.act_profile.specs.Answers.{answer_to};
-ghost use Rattle.act_swap.specs.Children.{AreInDayOrder};
+ghost use Rattle.act_profile.specs.DayOrder.{AreInDayOrder};
 ghost use Rattle.act_top.specs.Work.{ask_work};
 ghost use Rattle.act_text.specs.Kept.{AreWrittenWith};
 ghost use Rattle.act_top.specs.Known.{AreBlocksOn, AreKeptAt, AreOnesOf, IsKnown, IsPut};

@@ -6,7 +6,7 @@ ghost use Rattle.act_print.specs.Printed.{printed_block};
 ghost use Rattle.act_print.specs.Text.{block_text};
 ghost use Rattle.act_text.specs.Kept.{AreWrittenWith, Lines};
 ghost use Rattle.act_text.specs.Lines.{close_text, row_text};
-ghost use Rattle.act_swap.specs.Children.{AreInDayOrder};
+ghost use Rattle.act_profile.specs.DayOrder.{AreInDayOrder};
 ghost use Rattle.act_top.specs.Known.{IsBlock, IsKnown, IsKnownTo, IsPut, IsRenewed};
 ghost use Rattle.act_top.specs.Written.{Writes, faults_after};
 

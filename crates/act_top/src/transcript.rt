@@ -2,7 +2,7 @@
 ghost use Rattle.std.specs.Prelude.{◌≡◌, ◌≤◌, ◌<◌, ◌^◌, ℕ, true, ◌++◌, length, map, Err, IfOk};
 ghost use Rattle.std.specs.Arc.{arc_value};
 ghost use Rattle.std.specs.List.{All, flat_map, list_all};
-ghost use Rattle.act_board.specs.History.{journal_of};
+ghost use Rattle.act_history.specs.History.{journal_of};
 ghost use Rattle.act_model.specs.Answer.{Reply};
 ghost use Rattle.act_model.specs.Journal.{is_known};
 ghost use Rattle.act_model.specs.Run.{Stream};

@@ -3,7 +3,7 @@ ghost use Rattle.std.specs.Prelude.{◌≡◌, ◌≤◌, None, count_by, length
 ghost use Rattle.std.specs.List.{All as Each};
 ghost use Rattle.act_model.specs.Journal.{is_append};
 ghost use Rattle.act_model.specs.declared.journal.Line.{Line as StepLine};
-ghost use Rattle.act_portfolio.specs.Counts.{cone_sum};
+ghost use Rattle.act_cones.specs.Counts.{cone_sum};
 ghost use Rattle.act_script.specs.Asks.{AsksBelow, line_lists};
 ghost use Rattle.act_top.specs.Halts.{RefusesOnly, refusal_of};
 ghost use Rattle.act_top.specs.Output.{is_event, numbers_of, script_refused, too_much_asked};

@@ -15,16 +15,16 @@ use Rattle.act_model.specs.declared.journal.Item.{Item}
 use Rattle.act_model.specs.declared.observed.Obs.{Obs}
 use Rattle.act_portfolio.specs.Reading.{Accepted}
 use Rattle.act_board.specs.Calls.{Claims, Collects, IsOf, after_finish, after_give_up}
-use Rattle.act_board.specs.History.{History, and_then, entries_of, is_claimed, is_give_up, is_given_up, is_leave_by, item_of, journal_of}
-use Rattle.act_board.specs.Work.{Work, version}
-use Rattle.act_board.specs.declared.mark.Mark.{Mark}
-use Rattle.act_board.specs.declared.mark.Mark.TheVariants as mark
+use Rattle.act_history.specs.History.{History, and_then, entries_of, is_claimed, is_give_up, is_given_up, is_leave_by, item_of, journal_of}
+use Rattle.act_keeping.specs.Work.{Work, version}
+use Rattle.act_history.specs.declared.mark.Mark.{Mark}
+use Rattle.act_history.specs.declared.mark.Mark.TheVariants as mark
 use Rattle.act_board.specs.declared.outcome.Claim.{Claim}
 use Rattle.act_board.specs.declared.outcome.Claim.TheVariants as claim
 use Rattle.act_board.specs.declared.outcome.Collected.{Collected}
 use Rattle.act_board.specs.declared.outcome.Collected.TheVariants as collected
-use Rattle.act_board.proofs.Going.{any-not, any-yes}
-use Rattle.act_board.proofs.Places.{get-set, get-set_other}
+use Rattle.act_history.proofs.Going.{any-not, any-yes}
+use Rattle.act_history.proofs.Places.{get-set, get-set_other}
 use Rattle.board_cases.specs.Driven.{IsDriven}
 
 -- work of a board's first entries is such work after a mark

@@ -3,8 +3,8 @@ use Rattle.std.specs.Prelude.{◌≡◌, ℕ, suc, Bool, true, false, List, leng
 use Rattle.std.specs.List.{All, slice_get}
 use Rattle.act_portfolio.specs.Reading.{Accepted}
 use Rattle.act_board.specs.Calls.{IsOf}
-use Rattle.act_board.specs.History.{History, has_left, is_given_up}
-use Rattle.act_board.specs.Work.{Work}
+use Rattle.act_history.specs.History.{History, has_left, is_given_up}
+use Rattle.act_keeping.specs.Work.{Work}
 
 -- what is known of a board: its portfolio, who has left, that it was given up, and that the tasks at hand are of it
 pub record IsDriven (history : History) (of : Accepted) (gone : List Bool) (held : List Work) (gave_up : Bool) : Type 0 where

@@ -39,7 +39,7 @@ pub struct Driven {
 
 impl Model for Driven {
     ghost use Rattle.std.specs.Arc.{arc_value};
-    ghost use Rattle.act_board.specs.History.{History};
+    ghost use Rattle.act_history.specs.History.{History};
     ghost use Rattle.board_cases.specs.Driven.{IsDriven};
 
     ghost Value = { History };
@@ -53,7 +53,7 @@ impl Driven {
     ghost use Rattle.std.specs.Prelude.{◌≡◌, ◌≤◌, [], true, length, sum, IfOk, IfSome};
     ghost use Rattle.std.specs.Arc.{arc_value};
     ghost use Rattle.act_model.specs.Observed.{is_entry};
-    ghost use Rattle.act_board.specs.History.{IsPresent};
+    ghost use Rattle.act_history.specs.History.{IsPresent};
 
     /// A board over a portfolio, for callers with these quotas.
     pub fn new(

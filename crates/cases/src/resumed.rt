@@ -6,7 +6,7 @@ ghost use Rattle.act_profile.specs.Built.{IsBuilt};
 ghost use Rattle.act_profile.specs.Kept.{kept_of};
 ghost use Rattle.act_profile.specs.Plan.{plan_of};
 ghost use Rattle.act_profile.specs.Stops.{comes_before, rows_before, stop_day};
-ghost use Rattle.act_swap.specs.Children.{AreInDayOrder, RunsAreInDayOrder};
+ghost use Rattle.act_profile.specs.DayOrder.{AreInDayOrder, RunsAreInDayOrder};
 
 use crate::contracts::portfolio;
 use crate::lists::lists_told;
@@ -37,7 +37,7 @@ struct Evaluated {
 impl Model for Evaluated {
     ghost use Rattle.std.specs.Arc.{arc_value};
     ghost use Rattle.act_model.specs.Run.{Stream};
-    ghost use Rattle.act_swap.specs.Children.{AreInDayOrder};
+    ghost use Rattle.act_profile.specs.DayOrder.{AreInDayOrder};
 
     ghost Value = { Stream };
 

@@ -9,11 +9,11 @@ use Rattle.act_turn.specs.Standing.{AreNumbered, Standing, first_standing}
 use Rattle.std.proofs.lemmas.Option.{get_or_from_slice_get}
 use Rattle.act_board.specs.Calls.{Claims}
 use Rattle.act_board.specs.Entries.{list_of}
-use Rattle.act_board.specs.History.{History, IsPresent, and_then, asks_by, collected_by, is_claimed, is_given_up, is_leave_by}
-use Rattle.act_board.specs.Work.{Work, version}
+use Rattle.act_history.specs.History.{History, IsPresent, and_then, asks_by, collected_by, is_claimed, is_given_up, is_leave_by}
+use Rattle.act_keeping.specs.Work.{Work, version}
 use Rattle.act_board.specs.declared.history.Entry.{Entry}
-use Rattle.act_board.specs.declared.mark.Mark.{Mark}
-use Rattle.act_board.specs.declared.mark.Mark.TheVariants as mark
+use Rattle.act_history.specs.declared.mark.Mark.{Mark}
+use Rattle.act_history.specs.declared.mark.Mark.TheVariants as mark
 use Rattle.act_board.specs.declared.outcome.AppendFault.{AppendFault}
 use Rattle.act_board.specs.declared.outcome.AskFault.{AskFault}
 use Rattle.act_board.specs.declared.outcome.Claim.{Claim}

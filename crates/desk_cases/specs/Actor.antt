@@ -4,7 +4,7 @@ use Rattle.act_turn.specs.Standing.{IsFree, Standing}
 use Rattle.act_desk.specs.Desk.{Desk}
 use Rattle.act_portfolio.specs.Reading.{Accepted}
 use Rattle.act_board.specs.Entries.{list_of}
-use Rattle.act_board.specs.History.{History, IsPresent, asks_by, collected_by}
+use Rattle.act_history.specs.History.{History, IsPresent, asks_by, collected_by}
 use Rattle.act_board.specs.declared.history.Entry.{Entry}
 use Rattle.act_desk.specs.Step.{HasSeen, opening}
 use Rattle.desk_cases.specs.declared.actor.Actor.{Actor}

@@ -2,8 +2,8 @@ use Rattle.std.proofs.Common.{◌≡◌, ◌≤◌, ◌<◌, ◌+◌, ◌∷◌,
 use Rattle.act_audit.proofs.Answered.{Answered, answered-append, answered-ask, answered-first, answered-last}
 use Rattle.act_audit.proofs.answers.answers_in_order.Goals as goal
 use Rattle.act_audit.proofs.answers.answers_in_order.Goals.{in-Append+in_ok-append-in-Append, in-Ask+in_ok-reply-in-Ask+in_ok-push-in-Ask}
-use Rattle.act_board.specs.History.{History, and_then, asks_by, entries_of, version_of}
-use Rattle.act_board.specs.declared.mark.Mark.TheVariants as mark
+use Rattle.act_history.specs.History.{History, and_then, asks_by, entries_of, version_of}
+use Rattle.act_history.specs.declared.mark.Mark.TheVariants as mark
 use Rattle.act_model.specs.Answer.{Reply}
 use Rattle.act_model.specs.Journal.{book_of}
 use Rattle.act_model.specs.declared.asks.Asking.{Asking}

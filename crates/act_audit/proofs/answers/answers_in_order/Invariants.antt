@@ -1,5 +1,5 @@
 use Rattle.std.proofs.Common.{◌≡◌, ◌+◌, [], drop, length}
-use Rattle.act_board.specs.History.{asks_by, version_of}
+use Rattle.act_history.specs.History.{asks_by, version_of}
 use Rattle.act_model.specs.Journal.{book_of}
 use Rattle.act_top.specs.Driven.{IsDriven}
 use Rattle.act_top.specs.Output.{items_of}

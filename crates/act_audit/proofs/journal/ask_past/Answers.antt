@@ -3,7 +3,7 @@ use Rattle.std.specs.List.{All}
 use Rattle.std.proofs.lemmas.List.Elements.{All-cons, All-nil}
 use Rattle.std.proofs.lemmas.List.FromFn.{length-map-range_with_len}
 use Rattle.act_audit.proofs.journal.ask_past.Goals as goal
-use Rattle.act_portfolio.specs.Counts.{cone_sum}
+use Rattle.act_cones.specs.Counts.{cone_sum}
 use Rattle.act_script.specs.Asks.{AsksBelow, line_lists}
 
 pub weigh-requires-clause-contracts : goal.weigh-requires-clause-contracts

@@ -5,8 +5,8 @@ use Rattle.std.proofs.lemmas.Option.{get_or_from_slice_get}
 use Rattle.act_profile.specs.Reads.{is_in}
 use Rattle.act_refs.specs.Ordered.{order_of}
 use Rattle.act_refs.proofs.Turning.{written_back}
-use Rattle.act_board.specs.Reached.{is_wanted}
-use Rattle.act_board.proofs.Marking.{AreMarked, marked-all, marked-more, marked-none, no-marks}
+use Rattle.act_history.specs.Reached.{is_wanted}
+use Rattle.act_keeping.proofs.Marking.{AreMarked, marked-all, marked-more, marked-none, no-marks}
 use Rattle.act_board.proofs.below.below.Goals as goal
 
 pub loop-place-init : goal.loop-place-init

@@ -1,6 +1,6 @@
 use Rattle.std.proofs.Common.{◌-◌, ◌≤◌, length}
 use Rattle.std.specs.List.{range_with_len}
-use Rattle.act_board.proofs.Marking.{AreMarked}
+use Rattle.act_keeping.proofs.Marking.{AreMarked}
 use Rattle.act_board.proofs.below.below.Given as goal
 
 -- what the contracts from this place of the order on refer to is marked

@@ -1,6 +1,6 @@
 use Rattle.std.proofs.Common.{ℕ, ◌-◌, inl, inr, sym, ap, ◌∙◌, arith}
 use Rattle.std.proofs.lemmas.Bool.{cases_order}
-use Rattle.act_board.specs.History.{has_result}
+use Rattle.act_history.specs.History.{has_result}
 use Rattle.act_board.proofs.claiming.are_ready.Goals as goal
 
 pub returns-then-not-has_result-clause-no : goal.returns-then-not-has_result-clause-no

@@ -7,10 +7,10 @@ use Rattle.std.proofs.lemmas.List.Elements.{All-push}
 use Rattle.std.proofs.lemmas.Option.{get_or_from_slice_get}
 use Rattle.act_model.specs.Run.{Stream}
 use Rattle.act_profile.specs.Run.{run_of}
-use Rattle.act_swap.specs.Children.{AreInDayOrder, RunsAreInDayOrder}
-use Rattle.act_board.specs.History.{entries_of}
-use Rattle.act_board.specs.Kept.{AreResults}
-use Rattle.act_board.proofs.Told.{listed-in}
+use Rattle.act_profile.specs.DayOrder.{AreInDayOrder, RunsAreInDayOrder}
+use Rattle.act_history.specs.History.{entries_of}
+use Rattle.act_keeping.specs.Kept.{AreResults}
+use Rattle.act_keeping.proofs.Told.{listed-in}
 use Rattle.act_board.proofs.claiming.children_results.Goals as goal
 
 pub result_of-requires-clause-there : goal.result_of-requires-clause-there

@@ -7,8 +7,8 @@ use Rattle.act_date.specs.Civil.{last_day}
 use Rattle.act_model.specs.Reads.{Readings}
 use Rattle.act_model.specs.declared.observed.Obs.{Obs}
 use Rattle.act_profile.specs.Reads.{cut_by, cut_of}
-use Rattle.act_board.proofs.Places.{get-push_cases}
-use Rattle.act_board.proofs.SameRuns.{kept-alike}
+use Rattle.act_history.proofs.Places.{get-push_cases}
+use Rattle.act_keeping.proofs.SameRuns.{kept-alike}
 use Rattle.act_board.proofs.cuts.cuts_between.Goals as goal
 
 pub contracts-preserved : goal.contracts-preserved

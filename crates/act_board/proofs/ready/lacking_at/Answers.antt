@@ -5,7 +5,7 @@ use Rattle.std.proofs.lemmas.List.Sums.{count_by_more_no, count_by_more_yes}
 use Rattle.std.proofs.lemmas.Option.{get_or_from_slice_get}
 use Rattle.act_portfolio.specs.Reading.{Accepted}
 use Rattle.act_refs.specs.Path.{children_of}
-use Rattle.act_board.specs.History.{has_result}
+use Rattle.act_history.specs.History.{has_result}
 use Rattle.act_board.proofs.ready.lacking_at.Goals as goal
 use Rattle.act_board.proofs.ready.lacking_at.Goals.{then-not-has_result, else-not-has_result}
 

@@ -1,4 +1,4 @@
-use Rattle.act_board.proofs.Freed.{settled-may, settled-next}
+use Rattle.act_keeping.proofs.Freed.{settled-may, settled-next}
 use Rattle.act_board.proofs.ready.settle.Goals as goal
 
 pub note-requires-clause-lacks : goal.note-requires-clause-lacks

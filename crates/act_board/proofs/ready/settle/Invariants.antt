@@ -1,5 +1,5 @@
 use Rattle.std.proofs.Common.{◌≡◌, ◌+◌, ◌≤◌, length, take, vec_capacity}
-use Rattle.act_board.specs.Ready.{AreFree, AreSettled, blocked}
+use Rattle.act_keeping.specs.Ready.{AreFree, AreSettled, blocked}
 use Rattle.act_board.proofs.ready.settle.Given as goal
 
 -- those before this one are counted

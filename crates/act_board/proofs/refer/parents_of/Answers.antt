@@ -3,8 +3,8 @@ use Rattle.std.proofs.lemmas.Option.{get_or_from_slice_get}
 use Rattle.act_refs.specs.Path.{child_lists, children_of}
 use Rattle.act_refs.proofs.Paths.{length-child_lists}
 use Rattle.act_refs.proofs.Turning.{written_back}
-use Rattle.act_board.specs.Ready.{AddsTimes}
-use Rattle.act_board.proofs.Referring.{below-all, below-more, below-none}
+use Rattle.act_keeping.specs.Ready.{AddsTimes}
+use Rattle.act_keeping.proofs.Referring.{below-all, below-more, below-none}
 use Rattle.act_board.proofs.refer.parents_of.Goals as goal
 
 pub contracts-init : goal.contracts-init

@@ -1,6 +1,6 @@
 use Rattle.std.proofs.Common.{◌≡◌, length}
 use Rattle.act_refs.specs.Path.{child_lists}
-use Rattle.act_board.specs.Ready.{AreParentsBelow}
+use Rattle.act_keeping.specs.Ready.{AreParentsBelow}
 use Rattle.act_board.proofs.refer.parents_of.Given as goal
 
 -- the contracts before this one stand among the parents of their children

@@ -6,10 +6,10 @@ use Rattle.act_model.specs.declared.terms.Terms.{Terms}
 use Rattle.act_portfolio.specs.Reading.{Accepted}
 use Rattle.act_refs.specs.Ordered.{order_of}
 use Rattle.act_refs.proofs.Ordering.{order_of-reference}
-use Rattle.act_board.specs.Reached.{is_wanted}
-use Rattle.act_board.specs.Wanting.{IsExtended, IsPlaceOf, is_asked}
-use Rattle.act_board.specs.declared.pair.Pair.{Pair}
-use Rattle.act_board.proofs.Extended.{added-length, extended-next, extended-none, extended-past}
+use Rattle.act_history.specs.Reached.{is_wanted}
+use Rattle.act_keeping.specs.Wanting.{IsExtended, IsPlaceOf, is_asked}
+use Rattle.act_keeping.specs.declared.pair.Pair.{Pair}
+use Rattle.act_keeping.proofs.Extended.{added-length, extended-next, extended-none, extended-past}
 use Rattle.act_board.proofs.wanting.want_all.Goals as goal
 use Rattle.act_board.proofs.wanting.want_all.Goals.{then-is_wanted, else-is_wanted}
 

@@ -1,5 +1,5 @@
 use Rattle.std.proofs.Common.{◌-◌, ◌+◌, ◌≤◌, length, vec_capacity}
-use Rattle.act_board.specs.Wanting.{IsExtended, is_asked}
+use Rattle.act_keeping.specs.Wanting.{IsExtended, is_asked}
 use Rattle.act_board.proofs.wanting.want_all.Given as goal
 
 -- what is asked for of the ranks before this one is there

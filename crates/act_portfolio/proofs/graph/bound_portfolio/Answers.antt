@@ -1,11 +1,11 @@
 use Rattle.std.proofs.Common.{◌≡◌, ℕ, Err, IfSome, ap, arith, length, map, rules, string_bytes, subst, sym, zero, ◌∙◌}
 use Rattle.std.proofs.lemmas.List.{length-map}
 use Rattle.std.proofs.lemmas.Option.{IfSome_then}
-use Rattle.act_portfolio.specs.Binding.{with_shadows}
-use Rattle.act_portfolio.specs.Cones.{AreRanks}
-use Rattle.act_portfolio.specs.Reading.{plans_from}
-use Rattle.act_portfolio.specs.Refusal.{refusal_of}
-use Rattle.act_portfolio.proofs.Kept.{order_counted}
+use Rattle.act_binding.specs.Binding.{with_shadows}
+use Rattle.act_cones.specs.Cones.{AreRanks}
+use Rattle.act_refusal.specs.Steps.{plans_from}
+use Rattle.act_refusal.specs.Refusal.{refusal_of}
+use Rattle.act_cones.proofs.Orders.{order_counted}
 use Rattle.act_portfolio.proofs.Finished.{few_all, few_lists, have_plans, have_plans_named, is_finished, is_kept, many_numbers, shadows_are_built, with_their_shadows}
 use Rattle.act_portfolio.proofs.graph.bound_portfolio.Goals as goal
 

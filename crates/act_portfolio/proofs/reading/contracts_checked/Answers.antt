@@ -4,7 +4,7 @@ use Rattle.std.proofs.lemmas.Option.{IfSome_then}
 use Rattle.act_json.specs.Tree.{data_in}
 use Rattle.act_model.specs.Names.{no_names}
 use Rattle.act_portfolio.specs.Reading.{portfolio_listed}
-use Rattle.act_portfolio.specs.Refusal.{refusal_of}
+use Rattle.act_refusal.specs.Refusal.{refusal_of}
 use Rattle.act_portfolio.proofs.Accepting.{as_many_read, refused_checks, refused_contracts}
 use Rattle.act_portfolio.proofs.reading.contracts_checked.Goals as goal
 

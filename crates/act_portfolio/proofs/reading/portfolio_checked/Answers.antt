@@ -7,9 +7,9 @@ use Rattle.act_refs.specs.Ordered.{order_of}
 use Rattle.serde_json.specs.Data.{Data}
 use Rattle.act_portfolio.specs.Known.{AreChecked, CheckedContracts}
 use Rattle.act_portfolio.specs.Reading.{portfolio_listed}
-use Rattle.act_portfolio.specs.Refusal.{refusal_of}
+use Rattle.act_refusal.specs.Refusal.{refusal_of}
 use Rattle.act_portfolio.proofs.Accepting.{accepts, as_many_read, refused_graph, refused_plans, unused_are_many}
-use Rattle.act_portfolio.proofs.Numbered.{are_numbered}
+use Rattle.act_refusal.proofs.Numbered.{are_numbered}
 use Rattle.act_portfolio.proofs.reading.portfolio_checked.Goals as goal
 
 pub returns-in_err-graph-clause-refused : goal.returns-in_err-graph-clause-refused

@@ -1,7 +1,7 @@
 use Rattle.std.proofs.Common.{◌∙◌}
 use Rattle.std.proofs.lemmas.Option.{IfSome_then}
 use Rattle.std.proofs.lemmas.Result.{IfErr-weaker, IfOk-weaker}
-use Rattle.act_portfolio.specs.Refusal.{refusal_of}
+use Rattle.act_refusal.specs.Refusal.{refusal_of}
 use Rattle.act_portfolio.proofs.reading.read_portfolio.Goals as goal
 
 pub portfolio_checked-requires : goal.portfolio_checked-requires

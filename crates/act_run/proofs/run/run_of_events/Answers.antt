@@ -1,7 +1,7 @@
 use Rattle.std.proofs.Common.{map, take, refl, sym, subst, ◌∙◌}
 use Rattle.std.specs.Arc.{arc_value}
 use Rattle.act_model.specs.Run.{Stream}
-use Rattle.act_swap.specs.Children.{AreInDayOrder}
+use Rattle.act_profile.specs.DayOrder.{AreInDayOrder}
 use Rattle.act_run.proofs.Limited.{run_in_day_order, run_stopped}
 use Rattle.act_run.proofs.Resumed.{begun, enough_events, no_state, none_first, resumed_run}
 use Rattle.act_profile.specs.Steps.{start_of}

@@ -2,7 +2,7 @@ use Rattle.std.proofs.Common.{map, refl, sym, subst, ◌∙◌}
 use Rattle.std.specs.Arc.{arc_value}
 use Rattle.act_model.specs.Run.{Stream}
 use Rattle.act_run.specs.Resuming.{IsOver}
-use Rattle.act_swap.specs.Children.{AreInDayOrder}
+use Rattle.act_profile.specs.DayOrder.{AreInDayOrder}
 use Rattle.act_run.proofs.Limited.{run_in_day_order}
 use Rattle.act_run.proofs.Resumed.{over_is}
 use Rattle.act_run.proofs.run.shared_behind.Goals as goal

@@ -1,6 +1,6 @@
 use Rattle.std.proofs.Common.{◌≡◌, ◌≤◌, ℕ, ℤ, Option, Some, IsSomeAnd, slice_get, take, sym, subst}
 use Rattle.std.proofs.lemmas.Option.{IfSome_then}
-use Rattle.act_board.specs.History.{entries_of, version_of}
+use Rattle.act_history.specs.History.{entries_of, version_of}
 use Rattle.act_model.specs.Answer.{Reply}
 use Rattle.act_profile.specs.Kept.{kept_of}
 use Rattle.act_profile.specs.Run.{run_of}

@@ -2,7 +2,7 @@ use Rattle.std.proofs.Common.{◌+◌, Bool, List, drop, refl, sym, ap, subst, �
 use Rattle.std.specs.Prelude.{◌&&◌}
 use Rattle.std.specs.List.{list_all}
 use Rattle.std.proofs.Math.Bool.{and_assoc, and-true}
-use Rattle.act_board.specs.History.{History}
+use Rattle.act_history.specs.History.{History}
 use Rattle.act_model.specs.Answer.{Reply}
 use Rattle.act_top.specs.Known.{AreKeptAt, IsReplyOn}
 use Rattle.act_top.specs.Output.{ends_well}

@@ -3,7 +3,7 @@ use Rattle.std.specs.Prelude.{◌&&◌}
 use Rattle.std.specs.List.{All, list_all}
 use Rattle.std.proofs.Math.Bool.{and_assoc, and-true}
 use Rattle.std.proofs.lemmas.List.Folds.{list_all-append}
-use Rattle.act_board.specs.History.{History}
+use Rattle.act_history.specs.History.{History}
 use Rattle.act_model.specs.Answer.{Reply}
 use Rattle.act_model.specs.Run.{Stream}
 use Rattle.act_top.specs.Known.{AreKeptAt, IsReplyOn}

@@ -1,6 +1,6 @@
 use Rattle.std.proofs.Common.{◌≡◌, ◌≤◌, ℕ, length, sym, ap, subst, ◌∙◌}
 use Rattle.std.proofs.lemmas.Option.{IfSome_then}
-use Rattle.act_board.specs.History.{version_of}
+use Rattle.act_history.specs.History.{version_of}
 use Rattle.act_refs.proofs.Turning.{written_back}
 use Rattle.act_top.specs.Known.{AreOfAll, AreWrittenAt}
 use Rattle.act_top.proofs.Known.{answer-known-now, answer-written}

@@ -1,5 +1,5 @@
 use Rattle.std.proofs.Common.{◌∙◌}
-use Rattle.act_board.specs.History.{journal_of}
+use Rattle.act_history.specs.History.{journal_of}
 use Rattle.act_top.proofs.DeskRuns.{runs-part, runs-whole}
 use Rattle.act_top.proofs.desk.write_played.Goals as goal
 

@@ -3,9 +3,9 @@ use Rattle.std.proofs.lemmas.Result.{IfOk-weaker}
 use Rattle.act_model.specs.Journal.{is_known}
 use Rattle.act_model.specs.declared.journal.Step.TheVariants as step
 use Rattle.act_portfolio.specs.Reading.{Accepted}
-use Rattle.act_board.specs.History.{History, and_then, open_asks}
-use Rattle.act_board.specs.declared.mark.Mark.TheVariants as mark
-use Rattle.act_board.proofs.Going.{entries-same}
+use Rattle.act_history.specs.History.{History, and_then, open_asks}
+use Rattle.act_history.specs.declared.mark.Mark.TheVariants as mark
+use Rattle.act_history.proofs.Going.{entries-same}
 use Rattle.act_model.specs.Names.{NameLists}
 use Rattle.act_text.specs.Kept.{Lines}
 use Rattle.act_top.specs.Known.{AreBlocksOn, AreOnesOf}

@@ -1,7 +1,7 @@
 use Rattle.std.proofs.Common.{subst, sym, ◌∙◌}
 use Rattle.std.proofs.lemmas.Option.{same_Some}
 use Rattle.act_board.specs.Calls.{Collects}
-use Rattle.act_board.specs.Legal.{IsReady}
+use Rattle.act_history.specs.Legal.{IsReady}
 use Rattle.act_board.specs.declared.outcome.Collected.{Collected}
 use Rattle.act_top.proofs.driving.collect.Goals as goal
 

@@ -1,12 +1,12 @@
 use Rattle.std.proofs.Common.{◌≡◌, ◌+◌, ℕ, true, arith, length, sym, ap, subst, ◌∙◌}
 use Rattle.std.specs.Arc.{arc_value}
 use Rattle.act_board.specs.Calls.{Claims, IsOf, after_finish}
-use Rattle.act_board.specs.History.{entries_of}
-use Rattle.act_board.specs.Work.{Work, outcome, version}
+use Rattle.act_history.specs.History.{entries_of}
+use Rattle.act_keeping.specs.Work.{Work, outcome, version}
 use Rattle.act_board.specs.declared.outcome.Claim.{Claim}
 use Rattle.act_model.specs.Run.{Stream}
 use Rattle.act_profile.specs.Run.{deepest, run_of}
-use Rattle.act_swap.specs.Children.{AreInDayOrder}
+use Rattle.act_profile.specs.DayOrder.{AreInDayOrder}
 use Rattle.act_top.specs.Known.{IsKnown, IsPut}
 use Rattle.act_top.proofs.Known.{blocks-put, blocks-same, to-order}
 use Rattle.act_top.proofs.Quiet.{goes-on, goes-same, task-is-of, work-run}

@@ -3,7 +3,7 @@ use Rattle.std.specs.List.{flat_map}
 use Rattle.std.specs.Arc.{arc_value}
 use Rattle.std.proofs.lemmas.List.{length-set}
 use Rattle.std.proofs.lemmas.Option.{same_Some, slice_get-get_or}
-use Rattle.act_board.proofs.Places.{get-set}
+use Rattle.act_history.proofs.Places.{get-set}
 use Rattle.act_text.specs.Lines.{row_text}
 use Rattle.act_text.specs.Kept.{Lines}
 use Rattle.act_top.specs.Known.{IsKnownTo}

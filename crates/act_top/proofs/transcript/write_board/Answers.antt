@@ -1,4 +1,4 @@
-use Rattle.act_board.specs.History.{journal_of}
+use Rattle.act_history.specs.History.{journal_of}
 use Rattle.act_session.specs.Playing.{replies_of}
 use Rattle.act_top.proofs.Journals.{transcript-parts}
 use Rattle.act_top.proofs.Texts.{writes-behind, writes-first, writes-none}

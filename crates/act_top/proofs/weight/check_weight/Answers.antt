@@ -1,7 +1,7 @@
 use Rattle.std.proofs.Common.{◌≡◌, length, sym, ap, subst, ◌∙◌, ℕ}
 use Rattle.std.specs.List.{All}
 use Rattle.std.proofs.lemmas.List.FromFn.{length-map-range_with_len}
-use Rattle.act_portfolio.specs.Counts.{cone_sum}
+use Rattle.act_cones.specs.Counts.{cone_sum}
 use Rattle.act_script.specs.Asks.{AsksBelow, line_lists}
 use Rattle.act_top.proofs.weight.check_weight.Goals as goal
 

@@ -2,7 +2,7 @@ use Rattle.std.proofs.Common.{◌≡◌, ◌+◌, ◌∷◌, [], ◌++◌, List,
 use Rattle.std.specs.List.{range_with_len, sum}
 use Rattle.std.proofs.lemmas.List.FromFn.{map-range_with_len_more}
 use Rattle.std.proofs.lemmas.List.Sums.{sum_by_push}
-use Rattle.act_portfolio.specs.Counts.{cone_sum}
+use Rattle.act_cones.specs.Counts.{cone_sum}
 use Rattle.act_top.proofs.weight.weights_of.Goals as goal
 
 pub loop-contract-preserved : goal.loop-contract-preserved

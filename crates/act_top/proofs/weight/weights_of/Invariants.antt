@@ -1,7 +1,7 @@
 use Rattle.std.proofs.Common.{◌≡◌, ◌*◌, ◌≤◌, map}
 use Rattle.std.specs.List.{range_with_len, sum}
-use Rattle.act_portfolio.specs.Cones.{most_weight}
-use Rattle.act_portfolio.specs.Counts.{cone_sum}
+use Rattle.act_cones.specs.Cones.{most_weight}
+use Rattle.act_cones.specs.Counts.{cone_sum}
 use Rattle.act_top.proofs.weight.weights_of.Given as goal
 
 -- the weights of the contracts before this one, and their sum

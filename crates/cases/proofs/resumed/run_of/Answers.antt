@@ -3,7 +3,7 @@ use Rattle.std.specs.Arc.{arc_value}
 use Rattle.std.specs.declared.alloc.Global.{Global}
 use Rattle.std.specs.declared.sync.Arc.{Arc}
 use Rattle.act_model.specs.Run.{Stream}
-use Rattle.act_swap.specs.Children.{RunsAreInDayOrder}
+use Rattle.act_profile.specs.DayOrder.{RunsAreInDayOrder}
 use Rattle.cases.proofs.resumed.run_of.Goals as goal
 
 pub evaluate-requires-clause-children : goal.evaluate-requires-clause-children

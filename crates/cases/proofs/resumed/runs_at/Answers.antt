@@ -5,7 +5,7 @@ use Rattle.std.specs.declared.sync.Arc.{Arc}
 use Rattle.std.proofs.lemmas.List.{map_push}
 use Rattle.std.proofs.lemmas.List.Elements.{All-push}
 use Rattle.act_model.specs.Run.{Stream}
-use Rattle.act_swap.specs.Children.{AreInDayOrder, RunsAreInDayOrder}
+use Rattle.act_profile.specs.DayOrder.{AreInDayOrder, RunsAreInDayOrder}
 use Rattle.cases.proofs.resumed.runs_at.Goals as goal
 
 pub contracts-preserved : goal.contracts-preserved

@@ -4,7 +4,7 @@ use Rattle.std.proofs.lemmas.Result.{IfOk-weaker}
 use Rattle.act_model.specs.declared.observed.Obs.{Obs}
 use Rattle.act_portfolio.specs.Reading.{Accepted}
 use Rattle.act_profile.specs.Reads.{cut_of}
-use Rattle.act_board.specs.History.{History, entries_of}
+use Rattle.act_history.specs.History.{History, entries_of}
 use Rattle.act_board.proofs.board.Board.cuts_between.Goals as goal
 
 pub returns-clause-each : goal.returns-clause-each

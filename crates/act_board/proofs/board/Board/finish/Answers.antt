@@ -7,27 +7,27 @@ use Rattle.act_model.specs.declared.observed.Obs.{Obs}
 use Rattle.act_portfolio.specs.Reading.{Accepted}
 use Rattle.act_profile.specs.Run.{run_of}
 use Rattle.act_model.specs.Run.{Stream}
-use Rattle.act_swap.specs.Children.{AreInDayOrder}
+use Rattle.act_profile.specs.DayOrder.{AreInDayOrder}
 use Rattle.act_refs.specs.Path.{child_lists, children_of}
 use Rattle.act_refs.proofs.Paths.{children_of-read, length-child_lists}
 use Rattle.act_refs.proofs.Turning.{written_back}
 use Rattle.act_board.specs.Calls.{IsOf}
-use Rattle.act_board.specs.History.{History, and_then, entries_of, has_result, is_claimed, version_of}
-use Rattle.act_board.specs.Kept.{AreSorted, IsListed, IsPut, IsResult, IsUnderWay, contract_at}
-use Rattle.act_board.specs.Latest.{is_later}
-use Rattle.act_board.specs.Ready.{AreApart, AreFree, AreSettled, Lacks}
-use Rattle.act_board.specs.Work.{version}
-use Rattle.act_board.specs.declared.latest.Latest.{Latest}
-use Rattle.act_board.specs.declared.mark.Mark.{Mark}
-use Rattle.act_board.specs.declared.mark.Mark.TheVariants as mark
-use Rattle.act_board.specs.declared.pair.Pair.{Pair}
-use Rattle.act_board.specs.declared.pair.Progress.TheVariants.{Done}
-use Rattle.act_board.proofs.Claimed.{board-finished, claimed-told, owed-one, unclaimed-told}
-use Rattle.act_board.proofs.Told.{contract-is}
-use Rattle.act_board.proofs.LatestRuns.{latest-finished, latest-length}
-use Rattle.act_board.proofs.Pairs.{put-sorted, ranks-apart}
-use Rattle.act_board.proofs.Readiness.{begun-told, lacks-told, put-free, put-lack, put-ranks, ready-finished}
-use Rattle.act_board.proofs.Referring.{parents-exist}
+use Rattle.act_history.specs.History.{History, and_then, entries_of, has_result, is_claimed, version_of}
+use Rattle.act_keeping.specs.Kept.{AreSorted, IsListed, IsPut, IsResult, IsUnderWay, contract_at}
+use Rattle.act_keeping.specs.Latest.{is_later}
+use Rattle.act_keeping.specs.Ready.{AreApart, AreFree, AreSettled, Lacks}
+use Rattle.act_keeping.specs.Work.{version}
+use Rattle.act_keeping.specs.declared.latest.Latest.{Latest}
+use Rattle.act_history.specs.declared.mark.Mark.{Mark}
+use Rattle.act_history.specs.declared.mark.Mark.TheVariants as mark
+use Rattle.act_keeping.specs.declared.pair.Pair.{Pair}
+use Rattle.act_keeping.specs.declared.pair.Progress.TheVariants.{Done}
+use Rattle.act_keeping.proofs.Claimed.{board-finished, claimed-told, owed-one, unclaimed-told}
+use Rattle.act_keeping.proofs.Told.{contract-is}
+use Rattle.act_keeping.proofs.LatestRuns.{latest-finished, latest-length}
+use Rattle.act_keeping.proofs.Pairs.{put-sorted, ranks-apart}
+use Rattle.act_keeping.proofs.Readiness.{begun-told, lacks-told, put-free, put-lack, put-ranks, ready-finished}
+use Rattle.act_keeping.proofs.Referring.{parents-exist}
 use Rattle.act_board.proofs.board.Board.finish.Goals as goal
 
 pub put_progress-requires-clause-listed : goal.put_progress-requires-clause-listed
@@ -46,7 +46,7 @@ returns-then-not-is_claimed c =
     let ranked : slice_get p.order r ≡ Some c.into_parts-contract.result.0 = ap (λ (q : Accepted). slice_get q.order r) (sym c.deref.ensures) ∙ c.rank-rank.ensures in
     let same : contract_at raw r ≡ c.args.done.contract = contract-is p raw r c.into_parts-contract.result.0 refl ranked ∙ c.into_parts-contract.ensures.contract in
     let none : ¬ (IsUnderWay b.pairs.items v r) = λ is. c.if-not-is_claimed.ensures.no refl (subst (λ (xs : List Pair). IsUnderWay xs v r) (sym c.deref-2.ensures.value) is) in
-    let free = unclaimed-told raw _ b.items.items b.book b.callers.items b.pairs.items b.front b.owing b.given_up c.self.invariant.0 v r (slice_get_within p.order r c.into_parts-contract.result.0 ranked) none in
+    let free = unclaimed-told raw _ c.self.invariant.0 v r (slice_get_within p.order r c.into_parts-contract.result.0 ranked) none in
     let here : is_claimed c.args.self.now c.args.done.contract (version c.args.done) ≡ false =
     subst (λ (h : History). is_claimed h c.args.done.contract (version c.args.done) ≡ false) c.self.view_is
     (subst (λ (w : ℕ). is_claimed raw c.args.done.contract w ≡ false) c.into_parts-contract.ensures.version (subst (λ (d : ℕ). is_claimed raw d v ≡ false) same free)) in
@@ -60,7 +60,7 @@ overflow_sub-self c =
     let run = c.into_parts-contract.result.2 in
     let put = subst (λ (xs : List Pair). IsPut xs v r (Done run) c.put_progress.new.pairs) c.deref_mut.ensures.value c.put_progress.ensures in
     let claimed = subst (λ (xs : List Pair). IsUnderWay xs v r) c.deref-2.ensures.value (c.if-not-is_claimed.ensures.yes refl) in
-    owed-one _ _ b.items.items b.book b.callers.items b.pairs.items b.front b.owing b.given_up c.self.invariant.0 v r run c.put_progress.new.pairs put claimed
+    owed-one _ _ c.self.invariant.0 v r run c.put_progress.new.pairs put claimed
 
 pub put_mark-requires : goal.put_mark-requires
 put_mark-requires c =
@@ -70,7 +70,7 @@ put_mark-requires c =
     let run = c.into_parts-contract.result.2 in
     let put = subst (λ (xs : List Pair). IsPut xs v r (Done run) c.put_progress.new.pairs) c.deref_mut.ensures.value c.put_progress.ensures in
     let claimed = subst (λ (xs : List Pair). IsUnderWay xs v r) c.deref-2.ensures.value (c.if-not-is_claimed.ensures.yes refl) in
-    let owes = owed-one _ _ b.items.items b.book b.callers.items b.pairs.items b.front b.owing b.given_up c.self.invariant.0 v r run c.put_progress.new.pairs put claimed in
+    let owes = owed-one _ _ c.self.invariant.0 v r run c.put_progress.new.pairs put claimed in
     record { room = omega (arith, owes, c.self.invariant.0.room) }
 
 pub invariant_of-self : goal.invariant_of-self
@@ -107,14 +107,14 @@ invariant_of-self c =
     let read : c.deref-4.result.now ≡ c.put_progress.new.pairs = c.deref-4.ensures.value ∙ written_back b.pairs.len c.put_progress.new.pairs b.pairs.items (ap length put.is ∙ length-set b.pairs.items put.place (record { version = v; rank = r; progress = Done run })) (sym c.deref_mut.ensures.len ∙ ap length c.deref_mut.ensures.value) in
     let known-one : d < length p.contracts.children = omega (arith, c.into_parts-contract.ensures.within, ap (λ (q : Accepted). length q.contracts.terms) of.portfolio, c.self.invariant.0.count) in
     let listed : c.deref-5.result.now ≡ children_of (child_lists b.parents.items) d = c.deref-5.ensures.value ∙ sym (children_of-read b.parents.items d c.index.result.now c.index.ensures (omega (arith, known-one, c.self.invariant.2.turned.count, length-child_lists b.parents.items))) in
-    let lacks : has_result raw d v ≡ false = lacks-told raw d v (subst (λ (e : ℕ). is_claimed raw e v ≡ true) same (claimed-told raw _ b.items.items b.book b.callers.items b.pairs.items b.front b.owing b.given_up c.self.invariant.0 v r claimed)) in
+    let lacks : has_result raw d v ≡ false = lacks-told raw d v (subst (λ (e : ℕ). is_claimed raw e v ≡ true) same (claimed-told raw _ c.self.invariant.0 v r claimed)) in
     let begun = begun-told b.pairs.items c.put_progress.new.pairs v r (Done run) c.self.invariant.0.pairs.sorted put claimed in
     let settled = subst (λ (xs : List Pair). AreSettled p.order (children_of (child_lists b.parents.items) d) v xs b.ready.lacking.items c.settle.new.ready.lacking.items) read
     (subst (λ (xs : List ℕ). AreSettled p.order xs v c.deref-4.result.now b.ready.lacking.items c.settle.new.ready.lacking.items) listed
     (subst (λ (q : Accepted). AreSettled q.order c.deref-5.result.now v c.deref-4.result.now b.ready.lacking.items c.settle.new.ready.lacking.items) c.deref-3.ensures c.settle.ensures.settled)) in
     let marked-own = c.put_mark.ensures.added ∙ ap (λ (m : Mark). b.marks.items ++ m ∷ []) c.finish.ensures in (
       rw (written_back b.pairs.len c.put_progress.new.pairs b.pairs.items (ap length put.is ∙ length-set b.pairs.items put.place (record { version = v; rank = r; progress = Done run })) (sym c.deref_mut.ensures.len ∙ ap length c.deref_mut.ensures.value))
-          (board-finished raw _ b.items.items b.book b.callers.items b.pairs.items b.front b.owing b.given_up c.self.invariant.0 v r run c.put_progress.new.pairs c.put_mark.new.marks.items (vec_capacity c.put_mark.new.marks) put claimed
+          (board-finished raw _ c.self.invariant.0 v r run c.put_progress.new.pairs c.put_mark.new.marks.items (vec_capacity c.put_mark.new.marks) put claimed
           (slice_get_within p.order r d ranked) (made, c.into_parts-contract.ensures.in_day_order) marked c.put_mark.ensures.kept),
       rw (written_back b.latest.len c.put_latest.new.latest b.latest.items (latest-length raw b.latest.items c.put_latest.new.latest d v latest c.self.invariant.1 there known result later put_on) (sym c.deref_mut-2.ensures.len ∙ ap length c.deref_mut-2.ensures.value))
           (latest-finished raw b.latest.items c.put_latest.new.latest d v latest c.self.invariant.1 there known result later put_on c.put_mark.new.marks.items marked-own),
@@ -135,7 +135,7 @@ returns c =
     let ranked : slice_get p.order r ≡ Some d = ap (λ (q : Accepted). slice_get q.order r) (sym c.deref.ensures) ∙ c.rank-rank.ensures in
     let same : contract_at raw r ≡ c.args.done.contract = contract-is p raw r d refl ranked ∙ c.into_parts-contract.ensures.contract in
     let claimed = subst (λ (xs : List Pair). IsUnderWay xs v r) c.deref-2.ensures.value (c.if-not-is_claimed.ensures.yes refl) in
-    let so = claimed-told raw _ b.items.items b.book b.callers.items b.pairs.items b.front b.owing b.given_up c.self.invariant.0 v r claimed in
+    let so = claimed-told raw _ c.self.invariant.0 v r claimed in
     let here : is_claimed c.args.self.now c.args.done.contract (version c.args.done) ≡ true =
     subst (λ (h : History). is_claimed h c.args.done.contract (version c.args.done) ≡ true) c.self.view_is
     (subst (λ (w : ℕ). is_claimed raw c.args.done.contract w ≡ true) c.into_parts-contract.ensures.version (subst (λ (e : ℕ). is_claimed raw e v ≡ true) same so)) in
@@ -248,7 +248,7 @@ settle-requires-clause-lack c =
     let of = subst (λ (h : History). IsOf h c.args.done) (sym c.self.view_is) (record { portfolio = c.requires.portfolio; entries = c.requires.entries }) in
     let known : d < length p.contracts.children = omega (arith, c.into_parts-contract.ensures.within, ap (λ (q : Accepted). length q.contracts.terms) of.portfolio, c.self.invariant.0.count) in
     let listed : c.deref-5.result.now ≡ children_of (child_lists b.parents.items) d = c.deref-5.ensures.value ∙ sym (children_of-read b.parents.items d c.index.result.now c.index.ensures (omega (arith, known, c.self.invariant.2.turned.count, length-child_lists b.parents.items))) in
-    let lacks : has_result raw d v ≡ false = lacks-told raw d v (subst (λ (e : ℕ). is_claimed raw e v ≡ true) same (claimed-told raw _ b.items.items b.book b.callers.items b.pairs.items b.front b.owing b.given_up c.self.invariant.0 v r claimed)) in
+    let lacks : has_result raw d v ≡ false = lacks-told raw d v (subst (λ (e : ℕ). is_claimed raw e v ≡ true) same (claimed-told raw _ c.self.invariant.0 v r claimed)) in
     let begun = begun-told b.pairs.items c.put_progress.new.pairs v r (Done run) c.self.invariant.0.pairs.sorted put claimed in
     subst (λ (q : Accepted). Lacks q.order c.deref-5.result.now v c.deref-4.result.now b.ready.lacking.items) (sym c.deref-3.ensures)
     (subst (λ (xs : List ℕ). Lacks p.order xs v c.deref-4.result.now b.ready.lacking.items) (sym listed)

@@ -10,28 +10,28 @@ use Rattle.act_profile.specs.Run.{deepest, run_of}
 use Rattle.act_refs.specs.Path.{IsChild, children_of}
 use Rattle.act_refs.proofs.Turning.{written_back}
 use Rattle.act_board.specs.Calls.{IsOf}
-use Rattle.act_board.specs.History.{History, entries_of}
-use Rattle.act_board.specs.Kept.{ArePairs, IsListed, IsPut, IsThere, Keeps, contract_at}
-use Rattle.act_board.specs.Latest.{cut_for, kept_for}
-use Rattle.act_board.specs.Legal.{IsLegal, IsNext}
-use Rattle.act_board.specs.Tasks.{MayGoOn}
-use Rattle.act_board.specs.declared.latest.Latest.{Latest}
-use Rattle.act_board.specs.Work.{Work}
-use Rattle.act_board.specs.declared.mark.Mark.{Mark}
-use Rattle.act_board.specs.declared.mark.Mark.TheVariants as mark
-use Rattle.act_board.specs.declared.pair.Pair.{Pair}
-use Rattle.act_board.specs.declared.pair.Progress.TheVariants.{Claimed}
-use Rattle.act_board.proofs.Claimed.{board-claimed, claimable-place, next-within}
-use Rattle.act_board.proofs.Told.{contract-is, there}
-use Rattle.act_board.proofs.LatestRuns.{cached-told, cut-told, goes-on, kept-told, latest-quiet}
-use Rattle.act_board.proofs.Readiness.{last-next, ready-claimed, ready-room}
+use Rattle.act_history.specs.History.{History, entries_of}
+use Rattle.act_keeping.specs.Kept.{ArePairs, IsListed, IsPut, IsThere, Keeps, contract_at}
+use Rattle.act_keeping.specs.Latest.{cut_for, kept_for}
+use Rattle.act_history.specs.Legal.{IsLegal, IsNext}
+use Rattle.act_keeping.specs.Tasks.{MayGoOn}
+use Rattle.act_keeping.specs.declared.latest.Latest.{Latest}
+use Rattle.act_keeping.specs.Work.{Work}
+use Rattle.act_history.specs.declared.mark.Mark.{Mark}
+use Rattle.act_history.specs.declared.mark.Mark.TheVariants as mark
+use Rattle.act_keeping.specs.declared.pair.Pair.{Pair}
+use Rattle.act_keeping.specs.declared.pair.Progress.TheVariants.{Claimed}
+use Rattle.act_keeping.proofs.Claimed.{board-claimed, claimable-place, next-within}
+use Rattle.act_keeping.proofs.Told.{contract-is, there}
+use Rattle.act_keeping.proofs.LatestRuns.{cached-told, cut-told, goes-on, kept-told, latest-quiet}
+use Rattle.act_keeping.proofs.Readiness.{last-next, ready-claimed, ready-room}
 use Rattle.act_board.proofs.board.Board.hand_out.Goals as goal
 
 pub snapshot-requires : goal.snapshot-requires
 snapshot-requires c =
     let b = c.self.inside in
     let next = subst (λ (h : History). IsNext h c.args.contract c.args.version) (sym c.self.view_is) c.requires.next in
-    let within = next-within _ _ b.items.items b.book b.callers.items b.pairs.items b.front b.owing b.given_up c.self.invariant.0 c.args.contract c.args.version next in
+    let within = next-within _ _ c.self.invariant.0 c.args.contract c.args.version next in
     record { within = omega (arith, within.1, ap length c.self.invariant.0.entries) }
 
 pub children_results-requires-clause-contract : goal.children_results-requires-clause-contract
@@ -39,7 +39,7 @@ children_results-requires-clause-contract c =
     let b = c.self.inside in
     let next = subst (λ (h : History). IsNext h c.args.contract c.args.version) (sym c.self.view_is) c.requires.next in
     subst (λ (p : Accepted). c.args.contract < length p.contracts.terms) (sym c.deref.ensures)
-    (next-within _ _ b.items.items b.book b.callers.items b.pairs.items b.front b.owing b.given_up c.self.invariant.0 c.args.contract c.args.version next).0
+    (next-within _ _ c.self.invariant.0 c.args.contract c.args.version next).0
 
 pub children_results-requires-clause-there : goal.children_results-requires-clause-there
 children_results-requires-clause-there c = λ child refers.
@@ -55,7 +55,7 @@ cached_for-requires-clause-contract c =
     let b = c.self.inside in
     let next = subst (λ (h : History). IsNext h c.args.contract c.args.version) (sym c.self.view_is) c.requires.next in
     subst (λ (p : Accepted). c.args.contract < length p.contracts.terms) (sym c.deref-3.ensures)
-    (next-within _ _ b.items.items b.book b.callers.items b.pairs.items b.front b.owing b.given_up c.self.invariant.0 c.args.contract c.args.version next).0
+    (next-within _ _ c.self.invariant.0 c.args.contract c.args.version next).0
 
 pub cached_for-requires-clause-count : goal.cached_for-requires-clause-count
 cached_for-requires-clause-count c = ap length c.deref-4.ensures.value ∙ (c.self.invariant.1.count ∙ ap (λ (p : Accepted). length p.contracts.terms) (sym c.deref-3.ensures))
@@ -64,7 +64,7 @@ pub cached_for-requires-clause-version : goal.cached_for-requires-clause-version
 cached_for-requires-clause-version c =
     let b = c.self.inside in
     let next = subst (λ (h : History). IsNext h c.args.contract c.args.version) (sym c.self.view_is) c.requires.next in
-    let within = next-within _ _ b.items.items b.book b.callers.items b.pairs.items b.front b.owing b.given_up c.self.invariant.0 c.args.contract c.args.version next in
+    let within = next-within _ _ c.self.invariant.0 c.args.contract c.args.version next in
     omega (arith, within.1, ap length c.in_ok-seen.ensures.same, ap length c.self.invariant.0.entries)
 
 pub cached_for-requires-clause-latest : goal.cached_for-requires-clause-latest
@@ -77,7 +77,7 @@ new-task-requires-clause-contract c =
     let b = c.self.inside in
     let next = subst (λ (h : History). IsNext h c.args.contract c.args.version) (sym c.self.view_is) c.requires.next in
     subst (λ (p : Accepted). c.args.contract < length p.contracts.terms) (sym c.deref-5.ensures)
-    (next-within _ _ b.items.items b.book b.callers.items b.pairs.items b.front b.owing b.given_up c.self.invariant.0 c.args.contract c.args.version next).0
+    (next-within _ _ c.self.invariant.0 c.args.contract c.args.version next).0
 
 pub new-task-requires-clause-children : goal.new-task-requires-clause-children
 new-task-requires-clause-children c =
@@ -100,7 +100,7 @@ new-task-requires-clause-kept c =
     let p : Accepted = arc_value b.portfolio in
     let raw : History = record { portfolio = p; quotas = b.quotas.items; marks = b.marks.items } in
     let next = subst (λ (h : History). IsNext h c.args.contract c.args.version) (sym c.self.view_is) c.requires.next in
-    let within = next-within raw _ b.items.items b.book b.callers.items b.pairs.items b.front b.owing b.given_up c.self.invariant.0 c.args.contract c.args.version next in
+    let within = next-within raw _ c.self.invariant.0 c.args.contract c.args.version next in
     let there : c.args.contract < length b.latest.items = omega (arith, within.0, c.self.invariant.1.count) in
     let cached = c.in_ok-cached.cached in
     let is = cached-told raw b.latest.items c.self.invariant.1 c.args.contract c.args.version there cached c.deref-3.result.now c.snapshot.new.self c.deref-4.result.now c.deref-3.ensures (c.in_ok-seen.ensures.same ∙ c.self.invariant.0.entries) c.deref-4.ensures.value c.in_ok-cached.ensures.cached in
@@ -116,7 +116,7 @@ put_progress-requires-clause-listed c =
     let b = c.self.inside in
     let next = subst (λ (h : History). IsNext h c.args.contract c.args.version) (sym c.self.view_is) c.requires.next in
     let ranked : slice_get (arc_value b.portfolio).order c.rank-rank.result ≡ Some c.args.contract = ap (λ (p : Accepted). slice_get p.order c.rank-rank.result) (sym c.deref-6.ensures) ∙ c.rank-rank.ensures in
-    let at = claimable-place _ _ b.items.items b.book b.callers.items b.pairs.items b.front b.owing b.given_up c.self.invariant.0 c.args.contract c.args.version c.rank-rank.result next.claimable ranked in
+    let at = claimable-place _ _ c.self.invariant.0 c.args.contract c.args.version c.rank-rank.result next.claimable ranked in
     subst (λ (xs : List Pair). IsListed xs c.args.version c.rank-rank.result) (sym c.deref_mut.ensures.value) (at.1, (at.0, at.2), at.3, at.4)
 
 pub invariant_of-self-2 : goal.invariant_of-self-2
@@ -139,13 +139,13 @@ invariant_of-self-2 c =
     let marked-own = c.put_mark.ensures.added ∙ (ap (λ (ms : List Mark). ms ++ c.claim.result ∷ []) c.make_room.ensures.marks ∙ ap (λ (m : Mark). b.marks.items ++ m ∷ []) c.claim.ensures) in
     let room : length b.marks.items + (b.owing + 2) ≤ vec_capacity c.put_mark.new.marks = omega (arith, c.in_ok-make_room.ensures.room, ap length c.make_room.ensures.marks, c.put_mark.ensures.kept) in (
       rw (c.cached_for.ensures.same, c.in_ok-seen.ensures.same, written_back b.pairs.len c.put_progress.new.pairs b.pairs.items (ap length put.is ∙ length-set b.pairs.items put.place (record { version = v; rank = r; progress = Claimed })) (sym c.deref_mut.ensures.len ∙ ap length c.deref_mut.ensures.value))
-          (board-claimed raw _ b.items.items b.book b.callers.items b.pairs.items b.front b.owing b.given_up c.self.invariant.0 v r c.put_progress.new.pairs c.put_mark.new.marks.items (vec_capacity c.put_mark.new.marks) put
+          (board-claimed raw _ c.self.invariant.0 v r c.put_progress.new.pairs c.put_mark.new.marks.items (vec_capacity c.put_mark.new.marks) put
           (going, subst (λ (d : ℕ). IsNext raw d v) (sym same) next) (slice_get_within p.order r c.args.contract ranked) marked room),
       latest-quiet raw b.latest.items c.self.invariant.1 (mark.Claim c.args.contract v) c.put_mark.new.marks.items marked-own (λ d. refl) refl,
       rw (written_back b.pairs.len c.put_progress.new.pairs b.pairs.items (ap length put.is ∙ length-set b.pairs.items put.place (record { version = v; rank = r; progress = Claimed })) (sym c.deref_mut.ensures.len ∙ ap length c.deref_mut.ensures.value))
           (ready-room _ c.put_progress.new.pairs b.ready.lacking.items c.pop.new.self.items (vec_capacity b.ready.places) b.parents.items
           (ready-claimed raw b.pairs.items b.ready.lacking.items b.ready.places.items (vec_capacity b.ready.places) b.parents.items c.self.invariant.2 v r Claimed refl c.put_progress.new.pairs c.self.invariant.0.pairs.sorted put c.pop.new.self.items
-          (last-next raw _ b.items.items b.book b.callers.items b.pairs.items b.front b.owing b.given_up c.self.invariant.0 b.ready.lacking.items b.ready.places.items (vec_capacity b.ready.places) b.parents.items c.self.invariant.2 (c.self.invariant.0.given_up ∙ going)
+          (last-next raw _ c.self.invariant.0 b.ready.lacking.items b.ready.places.items (vec_capacity b.ready.places) b.parents.items c.self.invariant.2 (c.self.invariant.0.given_up ∙ going)
           c.args.contract v r put.place put.pair next ranked put.was put.same_version put.same_rank)
           (c.pop.ensures.rest ∙ ap (λ (n : ℕ). take (n - 1) b.ready.places.items) (omega (arith, b.ready.places.ok.0)))
           (mark.Claim c.args.contract v) c.put_mark.new.marks.items marked-own (λ d w. refl))
@@ -157,7 +157,7 @@ seen-length : (c : goal.After-put_mark) → length c.in_ok-seen.seen ≡ c.args.
 seen-length c =
     let b = c.self.inside in
     let next = subst (λ (h : History). IsNext h c.args.contract c.args.version) (sym c.self.view_is) c.requires.next in
-    let within = next-within _ _ b.items.items b.book b.callers.items b.pairs.items b.front b.owing b.given_up c.self.invariant.0 c.args.contract c.args.version next in
+    let within = next-within _ _ c.self.invariant.0 c.args.contract c.args.version next in
     ap length c.in_ok-seen.ensures.seen ∙ length-take-le c.args.version b.book (omega (arith, within.1, ap length c.self.invariant.0.entries))
 
 pub returns-clause-work : goal.returns-clause-work
@@ -178,7 +178,7 @@ returns-clause-kept c =
     let b = c.self.inside in
     let raw : History = record { portfolio = arc_value b.portfolio; quotas = b.quotas.items; marks = b.marks.items } in
     let next = subst (λ (h : History). IsNext h c.args.contract c.args.version) (sym c.self.view_is) c.requires.next in
-    let within = next-within raw _ b.items.items b.book b.callers.items b.pairs.items b.front b.owing b.given_up c.self.invariant.0 c.args.contract c.args.version next in
+    let within = next-within raw _ c.self.invariant.0 c.args.contract c.args.version next in
     let there : c.args.contract < length b.latest.items = omega (arith, within.0, c.self.invariant.1.count) in
     let cached = c.in_ok-cached.cached in
     let is = cached-told raw b.latest.items c.self.invariant.1 c.args.contract c.args.version there cached c.deref-3.result.now c.snapshot.new.self c.deref-4.result.now c.deref-3.ensures (c.in_ok-seen.ensures.same ∙ c.self.invariant.0.entries) c.deref-4.ensures.value c.in_ok-cached.ensures.cached in
@@ -190,7 +190,7 @@ returns-clause-cut c =
     let b = c.self.inside in
     let raw : History = record { portfolio = arc_value b.portfolio; quotas = b.quotas.items; marks = b.marks.items } in
     let next = subst (λ (h : History). IsNext h c.args.contract c.args.version) (sym c.self.view_is) c.requires.next in
-    let within = next-within raw _ b.items.items b.book b.callers.items b.pairs.items b.front b.owing b.given_up c.self.invariant.0 c.args.contract c.args.version next in
+    let within = next-within raw _ c.self.invariant.0 c.args.contract c.args.version next in
     let there : c.args.contract < length b.latest.items = omega (arith, within.0, c.self.invariant.1.count) in
     let cached = c.in_ok-cached.cached in
     let is = cached-told raw b.latest.items c.self.invariant.1 c.args.contract c.args.version there cached c.deref-3.result.now c.snapshot.new.self c.deref-4.result.now c.deref-3.ensures (c.in_ok-seen.ensures.same ∙ c.self.invariant.0.entries) c.deref-4.ensures.value c.in_ok-cached.ensures.cached in

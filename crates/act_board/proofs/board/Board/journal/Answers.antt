@@ -1,5 +1,5 @@
 use Rattle.std.proofs.Common.{subst}
-use Rattle.act_board.specs.Legal.{IsSound}
+use Rattle.act_history.specs.Legal.{IsSound}
 use Rattle.act_board.proofs.board.Board.journal.Goals as goal
 
 pub returns-clause-sound : goal.returns-clause-sound

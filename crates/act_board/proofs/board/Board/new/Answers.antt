@@ -4,11 +4,11 @@ use Rattle.std.specs.List.{All}
 use Rattle.act_portfolio.specs.Reading.{Accepted}
 use Rattle.act_refs.specs.Ordered.{order_of}
 use Rattle.act_refs.specs.Path.{child_lists}
-use Rattle.act_board.specs.Latest.{NoneYet}
-use Rattle.act_board.specs.Ready.{AreParents}
-use Rattle.act_board.proofs.Opened.{board-fresh}
-use Rattle.act_board.proofs.LatestRuns.{latest-fresh}
-use Rattle.act_board.proofs.Readiness.{ready-fresh}
+use Rattle.act_keeping.specs.Latest.{NoneYet}
+use Rattle.act_keeping.specs.Ready.{AreParents}
+use Rattle.act_keeping.proofs.Opened.{board-fresh}
+use Rattle.act_keeping.proofs.LatestRuns.{latest-fresh}
+use Rattle.act_keeping.proofs.Readiness.{ready-fresh}
 use Rattle.act_board.proofs.board.Board.new.Goals as goal
 
 pub invariant_of-result : goal.invariant_of-result

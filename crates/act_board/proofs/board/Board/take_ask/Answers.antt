@@ -7,20 +7,20 @@ use Rattle.act_model.specs.declared.journal.Step.TheVariants as step
 use Rattle.act_refs.proofs.Turning.{written_back}
 use Rattle.std.specs.Arc.{arc_value}
 use Rattle.act_portfolio.specs.Reading.{Accepted}
-use Rattle.act_board.specs.History.{History, asks_by}
-use Rattle.act_board.specs.Wanting.{IsExtended, is_asked}
-use Rattle.act_board.specs.declared.pair.Pair.{Pair}
-use Rattle.act_board.specs.Kept.{ArePairs, IsUntouched, Keeps, OpensAsk}
-use Rattle.act_board.specs.Ready.{AreFree}
-use Rattle.act_board.specs.Legal.{IsLegal}
-use Rattle.act_board.specs.declared.caller.Caller.{Caller}
-use Rattle.act_board.specs.declared.mark.Mark.{Mark}
-use Rattle.act_board.specs.declared.mark.Mark.TheVariants as mark
-use Rattle.act_board.proofs.Asked.{asked-number, board-asked, reached-by}
-use Rattle.act_board.proofs.Boards.{board-room, board-untouched}
-use Rattle.act_board.proofs.Quotas.{few-asked}
-use Rattle.act_board.proofs.LatestRuns.{latest-asked}
-use Rattle.act_board.proofs.Readiness.{asked-ranks, asked-start, ready-asked, ready-room}
+use Rattle.act_history.specs.History.{History, asks_by}
+use Rattle.act_keeping.specs.Wanting.{IsExtended, is_asked}
+use Rattle.act_keeping.specs.declared.pair.Pair.{Pair}
+use Rattle.act_keeping.specs.Kept.{ArePairs, IsUntouched, Keeps, OpensAsk}
+use Rattle.act_keeping.specs.Ready.{AreFree}
+use Rattle.act_history.specs.Legal.{IsLegal}
+use Rattle.act_keeping.specs.declared.caller.Caller.{Caller}
+use Rattle.act_history.specs.declared.mark.Mark.{Mark}
+use Rattle.act_history.specs.declared.mark.Mark.TheVariants as mark
+use Rattle.act_keeping.proofs.Asked.{asked-number, board-asked, reached-by}
+use Rattle.act_keeping.proofs.Boards.{board-room, board-untouched}
+use Rattle.act_keeping.proofs.Quotas.{few-asked}
+use Rattle.act_keeping.proofs.LatestRuns.{latest-asked}
+use Rattle.act_keeping.proofs.Readiness.{asked-ranks, asked-start, ready-asked, ready-room}
 use Rattle.act_board.proofs.board.Board.take_ask.Goals as goal
 
 pub open_ask-requires-clause-few : goal.open_ask-requires-clause-few
@@ -29,7 +29,7 @@ open_ask-requires-clause-few c = λ one at.
     let i = c.args.caller in
     let legal = subst (λ (h : History). IsLegal h (mark.Ask i c.args.asked)) (sym c.self.view_is) c.requires.legal in
     let here : slice_get b.callers.items (i - 1) ≡ Some one = ap (λ (xs : List Caller). slice_get xs (i - 1)) (sym c.deref_mut.ensures.value) ∙ at in
-    omega (arith, legal.3, few-asked _ _ b.items.items b.book b.callers.items b.pairs.items b.front b.owing b.given_up c.self.invariant.0 i one legal.0.from here)
+    omega (arith, legal.3, few-asked _ _ c.self.invariant.0 i one legal.0.from here)
 
 pub invariant_of-self-in_err-number : goal.invariant_of-self-in_err-number
 invariant_of-self-in_err-number c =
@@ -38,8 +38,8 @@ invariant_of-self-in_err-number c =
     let same = subst (λ (xs : List Caller). IsUntouched xs (i - 1) c.open_ask.new.callers) c.deref_mut.ensures.value c.in_err-number.ensures.unchanged in
     let back = written_back b.callers.len c.open_ask.new.callers b.callers.items (ap length same.is ∙ length-set b.callers.items (i - 1) same.after) (sym c.deref_mut.ensures.len ∙ ap length c.deref_mut.ensures.value) in (
       rw (c.make_room_for_step.ensures.marks, c.make_room_for_step.ensures.items, c.reserve.ensures.items, back)
-          (board-untouched _ _ b.items.items b.book b.callers.items b.pairs.items b.front b.owing b.given_up
-          (board-room _ _ b.items.items b.book b.callers.items b.pairs.items b.front b.owing b.given_up c.self.invariant.0 (vec_capacity c.make_room_for_step.new.marks) c.make_room_for_step.ensures.kept)
+          (board-untouched _ _
+          (board-room _ _ c.self.invariant.0 (vec_capacity c.make_room_for_step.new.marks) c.make_room_for_step.ensures.kept)
           (i - 1) c.open_ask.new.callers same),
       rw c.make_room_for_step.ensures.marks c.self.invariant.1,
       rw (c.make_room_for_step.ensures.marks, c.reserve.ensures.items, c.make_room_for_pairs.ensures.lacking, c.make_room_for_pairs.ensures.places)
@@ -50,7 +50,7 @@ pub invariant_of-self-in_err-make_room_for_pairs : goal.invariant_of-self-in_err
 invariant_of-self-in_err-make_room_for_pairs c =
     let b = c.self.inside in (
       rw (c.make_room_for_step.ensures.marks, c.make_room_for_step.ensures.items, c.reserve.ensures.items)
-          (board-room _ _ b.items.items b.book b.callers.items b.pairs.items b.front b.owing b.given_up c.self.invariant.0 (vec_capacity c.make_room_for_step.new.marks) c.make_room_for_step.ensures.kept),
+          (board-room _ _ c.self.invariant.0 (vec_capacity c.make_room_for_step.new.marks) c.make_room_for_step.ensures.kept),
       rw c.make_room_for_step.ensures.marks c.self.invariant.1,
       rw (c.make_room_for_step.ensures.marks, c.reserve.ensures.items, c.make_room_for_pairs.ensures.lacking, c.make_room_for_pairs.ensures.places)
           (ready-room _ b.pairs.items b.ready.lacking.items b.ready.places.items _ b.parents.items c.self.invariant.2 _ c.make_room_for_pairs.ensures.kept),
@@ -88,7 +88,7 @@ invariant_of-self-2 c =
     let wanted : ℕ → Bool = is_asked c.deref-4.result.now.order c.numbers-first.result.0 c.numbers-first.result.1 c.deref-5.result.now in
     let extended = subst (λ (p : Accepted). IsExtended b.pairs.items c.len-version.result wanted c.want_all-start.result (length p.order) c.want_all-start.new.pairs.items) c.deref-4.ensures
     (subst (λ (xs : List Pair). IsExtended xs c.len-version.result wanted c.want_all-start.result (length c.deref-4.result.now.order) c.want_all-start.new.pairs.items) c.reserve.ensures.items c.want_all-start.ensures) in
-    let board = board-asked _ _ b.items.items b.book b.callers.items b.pairs.items b.front b.owing b.given_up c.self.invariant.0 i asked c.open_ask.new.callers c.len-version.result c.in_ok-number.number legal known c.len-version.ensures.length opens
+    let board = board-asked _ _ c.self.invariant.0 i asked c.open_ask.new.callers c.len-version.result c.in_ok-number.number legal known c.len-version.ensures.length opens
     c.put_ask.new.marks.items (vec_capacity c.put_ask.new.marks) c.put_ask.new.items.items c.want_all-start.new.pairs.items c.want_all-start.result c.min-self-inside.result wanted marked room stepped extended
     (reached-by (arc_value b.portfolio) c.deref.result.now c.deref-2.result.now c.deref-4.result.now c.deref.ensures c.deref-2.ensures c.deref-4.ensures c.numbers-first.result.0 c.numbers-first.result.1 c.in_ok-below.below.items c.deref-5.result.now c.deref-5.ensures.value asked
     c.numbers-first.ensures.numbers c.in_ok-below.ensures)
@@ -115,5 +115,5 @@ returns-clause-number c =
     let known = subst (λ (h : History). is_known h.portfolio.names (step.Ask asked) ≡ true) (sym c.self.view_is) c.requires.known in
     let opens = subst (λ (xs : List Caller). OpensAsk xs (i - 1) (record { caller = i; number = c.in_ok-number.number; version = c.len-version.result; asked = asked }) c.open_ask.new.callers) c.deref_mut.ensures.value c.in_ok-number.ensures.opened in
     let marked = c.put_ask.ensures.mark ∙ ap (λ (ms : List Mark). ms ++ mark.Ask i asked ∷ []) c.make_room_for_step.ensures.marks in
-    asked-number _ _ b.items.items b.book b.callers.items b.pairs.items b.front b.owing b.given_up c.self.invariant.0 i asked c.open_ask.new.callers c.len-version.result c.in_ok-number.number legal known c.len-version.ensures.length opens
+    asked-number _ _ c.self.invariant.0 i asked c.open_ask.new.callers c.len-version.result c.in_ok-number.number legal known c.len-version.ensures.length opens
     ∙ ap (λ (ms : List Mark). length (asks_by (record { portfolio = arc_value b.portfolio; quotas = b.quotas.items; marks = ms }) i)) (sym marked)

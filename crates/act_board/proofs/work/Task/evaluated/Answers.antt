@@ -9,8 +9,8 @@ use Rattle.act_model.specs.Run.{Stream}
 use Rattle.act_model.specs.declared.terms.Terms.{Terms}
 use Rattle.act_portfolio.specs.Reading.{Accepted}
 use Rattle.act_profile.specs.Run.{run_over}
-use Rattle.act_swap.specs.Children.{RunsAreInDayOrder}
-use Rattle.act_board.specs.Work.{Work, outcome}
+use Rattle.act_profile.specs.DayOrder.{RunsAreInDayOrder}
+use Rattle.act_keeping.specs.Work.{Work, outcome}
 use Rattle.act_board.proofs.Worked.{counted, run-made}
 use Rattle.act_board.proofs.work.Task.evaluated.Goals as goal
 

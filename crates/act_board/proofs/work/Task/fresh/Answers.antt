@@ -5,9 +5,9 @@ use Rattle.std.specs.declared.sync.Arc.{Arc}
 use Rattle.act_model.specs.Run.{Stream}
 use Rattle.act_profile.specs.Kept.{KeptRows, kept_of}
 use Rattle.act_run.specs.Resuming.{kept_by}
-use Rattle.act_board.specs.Latest.{kept_under}
-use Rattle.act_board.specs.Tasks.{MayGoOn}
-use Rattle.act_board.specs.Work.{Work, outcome}
+use Rattle.act_keeping.specs.Latest.{kept_under}
+use Rattle.act_keeping.specs.Tasks.{MayGoOn}
+use Rattle.act_keeping.specs.Work.{Work, outcome}
 use Rattle.act_board.proofs.Worked.{goes-from, kept-within, whole-run}
 use Rattle.act_board.proofs.work.Task.fresh.Goals as goal
 

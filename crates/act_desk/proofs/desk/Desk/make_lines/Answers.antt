@@ -9,7 +9,7 @@ use Rattle.act_model.specs.declared.journal.Line.{Line}
 use Rattle.act_model.specs.declared.journal.Step.{Step}
 use Rattle.act_model.specs.declared.journal.Step.TheVariants.{Ask}
 use Rattle.act_turn.specs.Standing.{Standing}
-use Rattle.act_board.specs.History.{History}
+use Rattle.act_history.specs.History.{History}
 use Rattle.act_board.specs.declared.history.Entry.{Entry}
 use Rattle.act_desk.specs.Making.{IsMaking, MayMake, appends, asks, asks_known}
 use Rattle.act_desk.proofs.desk.Desk.make_lines.Goals.{in-Append+in_ok-make_append-in-Append, in-Ask+in_ok-make_room-in-Ask+in_ok-make_ask-in-Ask}

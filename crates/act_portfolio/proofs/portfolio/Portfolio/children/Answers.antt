@@ -1,6 +1,6 @@
 use Rattle.std.proofs.Common.{◌<◌, length}
 use Rattle.std.specs.List.{All}
-use Rattle.act_portfolio.proofs.Kept.{list_at}
+use Rattle.act_cones.proofs.Orders.{list_at}
 use Rattle.act_portfolio.proofs.portfolio.Portfolio.children.Goals as goal
 
 pub returns-clause-numbered : goal.returns-clause-numbered

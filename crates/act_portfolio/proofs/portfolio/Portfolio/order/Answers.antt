@@ -1,4 +1,4 @@
-use Rattle.act_portfolio.proofs.Kept.{children_exist, order_numbered}
+use Rattle.act_cones.proofs.Orders.{children_exist, order_numbered}
 use Rattle.act_portfolio.proofs.Unrolling.{within_depth}
 use Rattle.act_portfolio.proofs.portfolio.Portfolio.order.Goals as goal
 

@@ -1,6 +1,6 @@
 use Rattle.std.proofs.Common.{ap, ◌∙◌}
 use Rattle.std.specs.List.{slice_get}
-use Rattle.act_portfolio.proofs.Kept.{plan_at}
+use Rattle.act_cones.proofs.Orders.{plan_at}
 use Rattle.act_portfolio.proofs.portfolio.Portfolio.plan.Goals as goal
 
 pub returns-clause-of_terms : goal.returns-clause-of_terms

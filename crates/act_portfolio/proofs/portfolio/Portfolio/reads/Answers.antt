@@ -4,8 +4,8 @@ use Rattle.std.specs.List.Sorted.{IsStrictlyIncreasing}
 use Rattle.act_model.specs.Reads.{Readings}
 use Rattle.act_profile.specs.Contract.{observed_as}
 use Rattle.act_profile.specs.Reads.{codes_of, cone_terms}
-use Rattle.act_portfolio.specs.Cones.{reads_of}
-use Rattle.act_portfolio.proofs.Ascending.{ascending_increases}
+use Rattle.act_cones.specs.Cones.{reads_of}
+use Rattle.act_cones.proofs.Ascending.{ascending_increases}
 use Rattle.act_portfolio.proofs.Kept.{reads_at, reads_within}
 use Rattle.act_portfolio.proofs.portfolio.Portfolio.reads.Goals as goal
 

@@ -1,6 +1,6 @@
 use Rattle.std.proofs.Common.{◌≡◌, ◌<◌, ℕ, List, length, true, sym, ap, subst, ◌∙◌, arith}
 use Rattle.std.specs.List.{All}
-use Rattle.act_board.specs.History.{journal_of}
+use Rattle.act_history.specs.History.{journal_of}
 use Rattle.act_model.specs.Answer.{Reply}
 use Rattle.act_model.specs.Journal.{is_known}
 use Rattle.act_model.specs.Names.{NameLists}

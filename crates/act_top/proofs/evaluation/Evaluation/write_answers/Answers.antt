@@ -1,8 +1,8 @@
 use Rattle.std.proofs.Common.{None, ◌≡◌, ◌<◌, ◌≤◌, ◌+◌, ◌∷◌, [], ℕ, List, true, drop, take, refl, get_or, length, sym, ap, subst, ◌∙◌, arith, rules}
 use Rattle.std.specs.List.{All}
 use Rattle.std.specs.Prelude.{◌&&◌}
-use Rattle.act_board.specs.History.{History, and_then, asks_by, entries_of, version_of}
-use Rattle.act_board.specs.declared.mark.Mark.TheVariants as mark
+use Rattle.act_history.specs.History.{History, and_then, asks_by, entries_of, version_of}
+use Rattle.act_history.specs.declared.mark.Mark.TheVariants as mark
 use Rattle.act_model.specs.Answer.{Reply}
 use Rattle.act_model.specs.Names.{NameLists}
 use Rattle.act_model.specs.Run.{Stream}

@@ -1,6 +1,6 @@
 use Rattle.std.proofs.Common.{None, Some, refl, arith}
 use Rattle.std.specs.Arc.{arc_value}
-use Rattle.act_board.proofs.Places.{get-set_other}
+use Rattle.act_history.proofs.Places.{get-set_other}
 use Rattle.act_top.proofs.Known.{put-is}
 use Rattle.act_top.proofs.rows.Blocks.put.Goals as goal
 

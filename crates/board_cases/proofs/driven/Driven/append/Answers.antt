@@ -1,5 +1,5 @@
 use Rattle.std.proofs.Common.{refl}
-use Rattle.act_board.specs.declared.mark.Mark.TheVariants as mark
+use Rattle.act_history.specs.declared.mark.Mark.TheVariants as mark
 use Rattle.board_cases.proofs.Driving.{driven-told}
 use Rattle.board_cases.proofs.driven.Driven.append.Goals as goal
 

@@ -1,7 +1,7 @@
 use Rattle.std.proofs.Common.{List, sym, subst}
 use Rattle.std.specs.Arc.{arc_value}
 use Rattle.act_board.specs.Calls.{Claims}
-use Rattle.act_board.specs.Work.{Work}
+use Rattle.act_keeping.specs.Work.{Work}
 use Rattle.act_board.specs.declared.outcome.Claim.{Claim}
 use Rattle.board_cases.specs.Driven.{IsDriven}
 use Rattle.board_cases.proofs.Driving.{driven-claimed, driven-claims}

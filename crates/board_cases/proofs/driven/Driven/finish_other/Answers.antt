@@ -1,4 +1,4 @@
-use Rattle.act_board.specs.Work.{version}
+use Rattle.act_keeping.specs.Work.{version}
 use Rattle.board_cases.proofs.Driving.{driven-finished, driven-same}
 use Rattle.board_cases.proofs.driven.Driven.finish_other.Goals as goal
 

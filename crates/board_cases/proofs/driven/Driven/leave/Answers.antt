@@ -1,6 +1,6 @@
 use Rattle.std.proofs.Common.{◌≡◌, ◌≤◌, ℕ, suc, ◌-◌, refl, sym, ap, ◌∙◌, arith}
-use Rattle.act_board.specs.History.{and_then}
-use Rattle.act_board.specs.declared.mark.Mark.TheVariants as mark
+use Rattle.act_history.specs.History.{and_then}
+use Rattle.act_history.specs.declared.mark.Mark.TheVariants as mark
 use Rattle.board_cases.proofs.Driving.{driven-left, driven-same}
 use Rattle.board_cases.proofs.driven.Driven.leave.Goals as goal
 

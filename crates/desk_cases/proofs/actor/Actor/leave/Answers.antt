@@ -1,6 +1,6 @@
 use Rattle.std.proofs.Common.{ap, false, refl}
 use Rattle.std.proofs.lemmas.Bool.{false≢true}
-use Rattle.act_board.specs.History.{History}
+use Rattle.act_history.specs.History.{History}
 use Rattle.desk_cases.proofs.Playing.{plays-by}
 use Rattle.desk_cases.proofs.actor.Actor.leave.Goals as goal
 

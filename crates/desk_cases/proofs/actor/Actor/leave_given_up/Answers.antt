@@ -1,6 +1,6 @@
 use Rattle.std.proofs.Common.{Ok, false, inr, ap, refl, ◌∙◌, arith}
 use Rattle.std.proofs.lemmas.Bool.{false≢true}
-use Rattle.act_board.specs.History.{History}
+use Rattle.act_history.specs.History.{History}
 use Rattle.act_desk.specs.Calls.{CollectsOrNot}
 use Rattle.act_desk.proofs.Own.{stepped}
 use Rattle.desk_cases.proofs.Playing.{given_up-then, keeps-collected, keeps-given_up, keeps-no_memory, keeps-not_yet, plays-by, plays-on}

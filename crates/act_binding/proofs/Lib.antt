@@ -1,0 +1,5 @@
+pub mod Bound
+pub mod Graphed
+pub mod Linked
+pub mod Shadowed
+pub mod Unchanged

@@ -1,0 +1,7 @@
+pub mod Dropping
+pub mod Kept
+pub mod Latest
+pub mod Ready
+pub mod Tasks
+pub mod Wanting
+pub mod Work

@@ -1,0 +1,9 @@
+pub mod Built
+pub mod Disordered
+pub mod Joined
+pub mod Limited
+pub mod NamedSoFar
+pub mod Numbered
+pub mod PlannedSoFar
+pub mod ReadSoFar
+pub mod UnusedSoFar
