@@ -1,4 +1,0 @@
-use Rattle.act_tests.proofs.quiet.counts_steps.Given as goal
-
-abbrev pub ghosts-count_two : goal.ghosts-count_two
-ghosts-count_two a = record { name = a.blank.name; parts = a.blank.parts }

@@ -1,6 +1,0 @@
-use Rattle.board_cases.proofs.Driving.{driven-collect}
-use Rattle.board_cases.proofs.driven.Driven.collect.Goals as goal
-
-pub invariant_of-self : goal.invariant_of-self
-invariant_of-self c =
-    driven-collect c.collect.result c.args.caller c.self.inside.board c.collect.new.self _ _ _ _ c.collect.ensures.collected c.collect.ensures.unchanged c.self.invariant

@@ -1,5 +1,0 @@
-use Rattle.std.proofs.Common.{◌≡◌, take}
-use Rattle.cases.proofs.resumed.have_the_same.Given as goal
-
-abbrev pub invariant-rows : goal.invariant-rows
-invariant-rows l = take l.place l.one ≡ take l.place l.other

@@ -1,4 +1,0 @@
-use Rattle.desk_texts.proofs.audit.told.Given as goal
-
-abbrev pub ghosts-judge : goal.ghosts-judge
-ghosts-judge a = record { name = a.blank.name; parts = a.blank.parts }
