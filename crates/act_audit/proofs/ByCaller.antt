@@ -20,10 +20,10 @@ use Rattle.act_model.specs.declared.journal.Step.{Step}
 use Rattle.act_model.specs.declared.journal.Step.TheVariants.{Append, Ask}
 use Rattle.act_model.specs.declared.observed.Obs.{Obs}
 use Rattle.act_model.proofs.AsksInTurn.{asks_from, asks_in_turn}
-use Rattle.act_session.specs.Playing.{replies_of}
-use Rattle.act_top.specs.Output.{items_of}
-use Rattle.act_top.proofs.Answering.{one-caller}
-use Rattle.act_top.proofs.Texts.{drop-past}
+use Rattle.act_history.specs.History.{replies_of}
+use Rattle.act_transcript.specs.Text.{items_of}
+use Rattle.act_eval.proofs.Asks.{one-caller}
+use Rattle.act_engine.proofs.Lists.{drop-past}
 use Rattle.act_profile.specs.Answers.{answer_to, answers_of}
 use Rattle.act_profile.specs.Run.{Contracts}
 

@@ -28,8 +28,9 @@ use Rattle.act_print.proofs.ItemLaws.{item_content}
 use Rattle.act_print.proofs.LineLaws.{count_line_reads}
 use Rattle.act_print.proofs.TranscriptLaws.{journal_lines, journal_reads}
 use Rattle.act_profile.specs.Answers.{answers_of}
-use Rattle.act_top.specs.Output.{eval_text, output_of, work_line}
-use Rattle.act_top.specs.Work.{work_of}
+use Rattle.act_eval.specs.Evaluation.{eval_text, work_line}
+use Rattle.act_transcript.specs.Text.{output_of}
+use Rattle.act_eval.specs.Work.{work_of}
 
 module _ (names : NameLists) where
   -- it is read from any bytes that begin with a text of it

@@ -1,12 +1,12 @@
 -- What is said of a text.
-use Rattle.std.proofs.Common.{◌≡◌, ◌⊎◌, ℕ, ◌+◌, ◌≤◌, arith, inl, inr, List, [], ◌∷◌, length, None, Some, Ok, Err, refl, sym, ap, subst, ◌∙◌}
-use Rattle.act_audit.specs.Ending.{ComputesAsEval}
-use Rattle.act_audit.specs.Journal.{IsTextOfJournal, as_one_caller, first_past}
-use Rattle.act_audit.specs.Judging.{IsRightText, IsVerdictFor}
+use Rattle.std.proofs.Common.{◌≡◌, ◌≢◌, ◌⊎◌, ℕ, ◌+◌, ◌≤◌, arith, inl, inr, List, [], ◌∷◌, length, None, Some, Result, Ok, Err, IfOk, refl, sym, ap, subst, ◌∙◌}
+use Rattle.act_audit.specs.Audit.{ComputesAsEval}
+use Rattle.act_audit.specs.Journal.{IsTextOfJournal, as_one_caller, first_past, right_text}
+use Rattle.act_audit.specs.Judging.{IsOrdered, IsRightText, IsVerdictFor}
 use Rattle.act_audit.specs.Order.{IsFirstDisorder, IsOfScripts}
 use Rattle.act_audit.proofs.Orders.{no-disorder}
 use Rattle.act_session.specs.Interleaving.{IsInterleaving}
-use Rattle.act_audit.specs.Text.{code_in_line, has_work_line, names_for, text_in, with_code, with_codes}
+use Rattle.act_audit.specs.Text.{code_in_line, first_difference, has_work_line, names_for, text_in, with_code, with_codes}
 use Rattle.act_audit.specs.Verdict.{AuditJob, IsOutOfOrder, IsRight, IsRightFor, IsVerdictOn, IsWrong, names_of}
 use Rattle.act_audit.specs.declared.verdict.Verdict.{Verdict}
 use Rattle.act_audit.specs.declared.verdict.Verdict.TheVariants.{Right, Wrong, Disorder}
@@ -19,8 +19,8 @@ use Rattle.act_print.specs.Faults.{IsFirstFault, IsTextOf, lines_of}
 use Rattle.act_print.specs.Printed.{Transcript}
 use Rattle.act_print.specs.Reading.{Lines, Reading, journal_at}
 use Rattle.act_print.proofs.Readers.{ok_is}
-use Rattle.act_top.specs.Scripts.{Scripts}
-use Rattle.act_top.specs.Work.{work_of}
+use Rattle.act_job.specs.Scripts.{Scripts}
+use Rattle.act_eval.specs.Work.{work_of}
 
 -- the contracts of names with more codes
 pub same-contracts : (names : NameLists) (lines : List (List ℕ)) → (with_codes names lines).contracts ≡ names.contracts
@@ -108,8 +108,8 @@ module _ (job : AuditJob) where
       ];
     }
 
-    pub computed : (answers before after : ℕ) → IsVerdictFor job.portfolio (names_of job) job.text job.scripts.lists items (Right answers) → after ≡ before + work_of job.portfolio (as_one_caller items) → ComputesAsEval job before after
-    computed answers before after said ticked = (items, right-for said.0, ticked)
+    pub computed : (answers rows : ℕ) → IsVerdictFor job.portfolio (names_of job) job.text job.scripts.lists items (Right answers) → rows ≡ work_of job.portfolio (as_one_caller items) → ComputesAsEval job rows
+    computed answers rows said counted = (items, right-for said.0, counted)
 
 -- a right text of scripts isn't out of order
 of-given : (scripts : List (List Line)) (items : List Item) → 1 ≤ length scripts → IsOfScripts scripts items → IsInterleaving scripts items
@@ -140,11 +140,20 @@ module _ (job : AuditJob) (portfolio : Accepted) (names : NameLists) (text : Lis
       → IsVerdictFor portfolio names bytes read items verdict → IsVerdictOn job verdict
   said-of found bytes read items rest verdict found-is is same lists-are said = so-said job items rest (read-of found (Ok (items, rest)) found-is is) verdict (verdict-of bytes read items verdict same lists-are said)
 
-  pub computed-of : (found bytes : List ℕ) (read : List (List Line)) (items : List Item) (rest : Lines) (answers before after : ℕ) → found ≡ text → journal_at names (lines_of found) ≡ Ok (items, rest) → bytes ≡ text → read ≡ lists
-      → IsVerdictFor portfolio names bytes read items (Right answers) → after ≡ before + work_of portfolio (as_one_caller items) → ComputesAsEval job before after
-  computed-of found bytes read items rest answers before after found-is is same lists-are said ticked =
-      computed job items rest (read-of found (Ok (items, rest)) found-is is) answers before after (verdict-of bytes read items (Right answers) same lists-are said)
-      (ticked ∙ ap (λ (p : Accepted). before + work_of p (as_one_caller items)) of.portfolio_is)
+  -- so many rows are counted as are computed
+  pub counted-of : {E : Type 0} (found bytes : List ℕ) (read : List (List Line)) (items : List Item) (rest : Lines) (before now : ℕ) (r : Result Verdict E) → found ≡ text → journal_at names (lines_of found) ≡ Ok (items, rest) → bytes ≡ text → read ≡ lists
+      → IfOk r (IsVerdictFor portfolio names bytes read items)
+      → IfOk r (λ verdict. (rows : ℕ) × (now ≡ before + rows) × ((answers : ℕ) → verdict ≡ Right answers → rows ≡ work_of portfolio (as_one_caller items)))
+      → IfOk r (λ verdict. (rows : ℕ) × (now ≡ before + rows) × ((answers : ℕ) → verdict ≡ Right answers → ComputesAsEval job rows))
+  counted-of found bytes read items rest before now (Err fault) found-is is same lists-are said counted = tt
+  counted-of found bytes read items rest before now (Ok verdict) found-is is same lists-are said counted = (
+    counted.0,
+    counted.1,
+    λ answers right.
+        computed job items rest (read-of found (Ok (items, rest)) found-is is) answers counted.0
+        (verdict-of bytes read items (Right answers) same lists-are (subst (IsVerdictFor portfolio names bytes read items) right said))
+        (counted.2 answers right ∙ ap (λ (p : Accepted). work_of p (as_one_caller items)) of.portfolio_is),
+  )
 
   pub none-of : (found bytes : List ℕ) (left : Lines) (verdict : Verdict) → found ≡ text → journal_at names (lines_of found) ≡ Err left → bytes ≡ text
       → (line : ℕ) × (verdict ≡ Wrong line) × IsFirstFault names (text_in bytes) line → IsVerdictOn job verdict
@@ -157,3 +166,39 @@ pub no-text-of : (names : NameLists) (found bytes : List ℕ) (left : Lines) →
 no-text-of names found bytes left same is items text =
     let read = text-begins names bytes items text in
     not-read names (lines_of bytes) left items read.0 (ap (λ (bs : List ℕ). journal_at names (lines_of bs)) (sym same) ∙ is) read.1
+
+-- nothing is computed where no verdict is that a text is right
+pub none-counted : {E : Type 0} (Counts : ℕ → Type 0) (IsWrongAt : ℕ → Type 0) (before : ℕ) (r : Result Verdict E) → IfOk r (λ verdict. (line : ℕ) × (verdict ≡ Wrong line) × IsWrongAt line)
+    → IfOk r (λ verdict. (rows : ℕ) × (before ≡ before + rows) × ((answers : ℕ) → verdict ≡ Right answers → Counts rows))
+none-counted Counts IsWrongAt before (Err fault) said = tt
+none-counted Counts IsWrongAt before (Ok verdict) said = (0, omega arith, λ answers right. absurd (let never : Right answers ≡ Wrong said.0 = sym right ∙ said.1 in cc))
+
+-- or so many rows whatever the verdict is
+pub all-counted : {E : Type 0} (before now rows : ℕ) (r : Result Verdict E) → now ≡ before + rows → IfOk r (λ verdict. (count : ℕ) × (now ≡ before + count) × ((answers : ℕ) → verdict ≡ Right answers → count ≡ rows))
+all-counted before now rows (Err fault) ticked = tt
+all-counted before now rows (Ok verdict) ticked = (rows, ticked, λ answers right. refl)
+
+-- ---- the verdict on a text that begins with a journal
+
+module _ (portfolio : Accepted) (names : NameLists) (text : List ℕ) (scripts : List (List Line)) (items : List Item) (within : first_past portfolio items ≡ None) where
+  abbrev wanted : List ℕ
+  wanted = right_text portfolio names items (has_work_line text)
+
+  -- one that differs from the right one isn't right
+  pub differs-verdict : (line : ℕ) → (text ≢ wanted) × (line ≡ first_difference text wanted) → (verdict : Verdict)
+      → (here : ℕ) × (verdict ≡ Wrong here) × (IsFirstFault names (text_in text) here ⊎ (((printed : Transcript) × IsTextOf names (text_in text) printed) × (here ≡ line)))
+      → IsVerdictFor portfolio names text scripts items verdict
+  differs-verdict line unlike verdict told =
+      subst (IsVerdictFor portfolio names text scripts items) (sym told.1) (
+        (λ right. unlike.0 right.same),
+        elim told.2 [
+          | inl fault ↦ inl fault
+          | inr text-is ↦ inr (text-is.0, inr (within, text-is.1 ∙ unlike.1))
+        ],
+      )
+
+  -- of the right one the order is told
+  pub ordered-verdict : (verdict : Verdict) → text ≡ wanted → IsOrdered scripts items verdict → IsVerdictFor portfolio names text scripts items verdict
+  ordered-verdict (Right answers) same ordered = (record { within = within; same = same }, ordered)
+  ordered-verdict (Wrong line) same ordered = absurd ordered
+  ordered-verdict (Disorder line caller) same ordered = (record { within = within; same = same }, ordered)

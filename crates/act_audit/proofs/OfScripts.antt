@@ -16,9 +16,11 @@ use Rattle.act_portfolio.specs.Reading.{Accepted}
 use Rattle.act_print.specs.Printed.{printed_answer}
 use Rattle.act_profile.specs.Answers.{answers_of}
 use Rattle.act_session.specs.Interleaving.{IsInterleaving}
-use Rattle.act_top.proofs.Journals.{answers-few, interleaved-all}
-use Rattle.act_top.specs.Output.{eval_text, output_of, work_line}
-use Rattle.act_top.specs.Work.{work_of}
+use Rattle.act_session.proofs.Interleaved.{interleaved-all}
+use Rattle.act_transcript.proofs.JournalAnswers.{answers-few}
+use Rattle.act_eval.specs.Evaluation.{eval_text, work_line}
+use Rattle.act_transcript.specs.Text.{output_of}
+use Rattle.act_eval.specs.Work.{work_of}
 
 -- the right text, with what stands behind its answers
 behind : (portfolio : Accepted) (names : NameLists) (items : List Item) (has_work : Bool) → (more : List ℕ) × (output_of portfolio names items ++ more ≡ right_text portfolio names items has_work)

@@ -11,7 +11,7 @@ use Rattle.std.proofs.lemmas.List.Filters.{length-filter_both}
 use Rattle.std.proofs.lemmas.Option.{get_or_from_slice_get, none-some, slice_get-get_or, slice_get_cases, slice_get_past, slice_get_within}
 use Rattle.act_keeping.proofs.Quotas.{some-at}
 use Rattle.act_model.proofs.Lists.{behind}
-use Rattle.act_top.proofs.Texts.{drop-next}
+use Rattle.act_engine.proofs.Lists.{drop-next}
 use Rattle.act_audit.specs.Order.{InOrderUpTo, IsFirstDisorder, IsFirstShort, IsNoneShort, next_step}
 use Rattle.act_model.specs.declared.journal.Item.{Item}
 use Rattle.act_model.specs.declared.journal.Line.{Line}

@@ -4,7 +4,7 @@ use Rattle.std.specs.List.{All, find, range_with_len}
 use Rattle.std.specs.Option.{option_map, option_or}
 use Rattle.std.proofs.lemmas.Bool.{ltb-false}
 use Rattle.std.proofs.lemmas.List.{take_all}
-use Rattle.std.proofs.lemmas.List.Elements.{All-cons, All-nil}
+use Rattle.std.proofs.lemmas.List.Elements.{All-cons, All-nil, All-head, All-tail}
 use Rattle.act_audit.specs.Journal.{ask_past, entry_past, first_past, line_at, one_script}
 use Rattle.act_audit.specs.Judging.{AreItems, Journal}
 use Rattle.act_audit.proofs.Scripts.{script-entries, script_from}
@@ -19,9 +19,8 @@ use Rattle.act_model.specs.declared.journal.Step.{Step}
 use Rattle.act_model.specs.declared.journal.Step.TheVariants.{Append, Ask}
 use Rattle.act_portfolio.specs.Reading.{Accepted}
 use Rattle.act_script.specs.Asks.{AsksBelow, is_below}
-use Rattle.act_top.proofs.Journals.{all-head, all-tail}
-use Rattle.act_top.specs.Output.{too_much_asked}
-use Rattle.act_top.specs.Ready.{IsReady}
+use Rattle.act_job.specs.Weight.{too_much_asked}
+use Rattle.act_eval.specs.Evaluation.{IsEvaluable}
 
 -- ---- the steps
 
@@ -29,8 +28,8 @@ use Rattle.act_top.specs.Ready.{IsReady}
 script-all : (P : Step → Type 0) (line : ℕ) (items : List Item) → All (λ (item : Item). P item.step) items → All (λ (l : Line). P l.step) (script_from line items)
 script-all P line [] all = All-nil (λ (l : Line). P l.step)
 script-all P line (item ∷ items) all =
-    All-cons (λ (l : Line). P l.step) (record { step = item.step; line = line }) (script_from (line + 1) items) (all-head (λ (i : Item). P i.step) item items all)
-    (script-all P (line + 1) items (all-tail (λ (i : Item). P i.step) item items all))
+    All-cons (λ (l : Line). P l.step) (record { step = item.step; line = line }) (script_from (line + 1) items) (All-head (λ (i : Item). P i.step) item items all)
+    (script-all P (line + 1) items (All-tail (λ (i : Item). P i.step) item items all))
 
 known-below : (names : NameLists) (step : Step) → is_known names step ≡ true → is_below (length names.contracts) step ≡ true
 known-below names (Append entry) known = refl
@@ -73,27 +72,21 @@ entries-fit (item ∷ items) none =
     omega (arith, ltb-false most_entries (count_by appends (take (0 + n + 1) all)) last, ap (count_by appends) (take_all (0 + n + 1) all (omega arith)))
 
 -- it can be evaluated
-ready : (portfolio : Accepted) (names : NameLists) (items : List Item) (entries : ℕ) → AreItems names items → names.contracts ≡ portfolio.names.contracts → first_past portfolio items ≡ None
-    → IsReady portfolio (record { lines = one_script items; names = names; entries = entries })
-ready portfolio names items entries are same within =
+ready : (portfolio : Accepted) (names : NameLists) (items : List Item) → AreItems names items → names.contracts ≡ portfolio.names.contracts → first_past portfolio items ≡ None → IsEvaluable portfolio names (one_script items)
+ready portfolio names items are same within =
     let none = none-or (entry_past items) (ask_past portfolio items) within in
     record {
-      lines = record {
-        contracts = same;
-        known = script-all (λ step. is_known names step ≡ true) 2 items are.known;
-        entries = script-all (λ step. appends_entry step ≡ true) 2 items are.entries;
-        few = omega (arith, script-entries 2 items, entries-fit items none.0);
-      };
+      contracts = same;
+      known = script-all (λ step. is_known names step ≡ true) 2 items are.known;
+      entries = script-all (λ step. appends_entry step ≡ true) 2 items are.entries;
+      few = omega (arith, script-entries 2 items, entries-fit items none.0);
       light = none-mapped (λ (ask : ℕ × ℕ). ask.1) (too_much_asked portfolio (one_script items ∷ [])) none.1;
     }
 
 -- the same of what is equal to these
-pub ready-of : (portfolio shared : Accepted) (journal : Journal) (names : NameLists) (items given found : List Item) (lines : List Line) (entries : ℕ) (past : Option ℕ)
-    → ◌≡◌ {A = Journal} (record { items = items; names = names }) journal → given ≡ items → lines ≡ one_script given → found ≡ items → past ≡ first_past portfolio found → past ≡ None → shared ≡ portfolio
-    → AreItems journal.names journal.items → journal.names.contracts ≡ portfolio.names.contracts → IsReady shared (record { lines = lines; names = names; entries = entries })
-ready-of portfolio shared journal names items given found lines entries past is given-is lines-are found-is past-is none shared-is are same =
-    let within : first_past portfolio journal.items ≡ None = ap (first_past portfolio) (sym (found-is ∙ ap (λ (j : Journal). j.items) is)) ∙ (sym past-is ∙ none) in
+pub ready-of : (portfolio : Accepted) (journal : Journal) (names : NameLists) (items given : List Item) (lines : List Line) → ◌≡◌ {A = Journal} (record { items = items; names = names }) journal → given ≡ items → lines ≡ one_script given
+    → first_past portfolio journal.items ≡ None → AreItems journal.names journal.items → journal.names.contracts ≡ portfolio.names.contracts → IsEvaluable portfolio names lines
+ready-of portfolio journal names items given lines is given-is lines-are within are same =
     let all : lines ≡ one_script journal.items = lines-are ∙ ap one_script (given-is ∙ ap (λ (j : Journal). j.items) is) in
-    let one = subst (λ (ls : List Line). IsReady portfolio (record { lines = ls; names = journal.names; entries = entries })) (sym all) (ready portfolio journal.names journal.items entries are same within) in
-    let two = subst (λ (j : Journal). IsReady portfolio (record { lines = lines; names = j.names; entries = entries })) (sym is) one in
-    subst (λ (p : Accepted). IsReady p (record { lines = lines; names = names; entries = entries })) (sym shared-is) two
+    let one = subst (λ (ls : List Line). IsEvaluable portfolio journal.names ls) (sym all) (ready portfolio journal.names journal.items are same within) in
+    subst (λ (j : Journal). IsEvaluable portfolio j.names lines) (sym is) one

@@ -1,11 +1,15 @@
 -- The right text of a journal.
-use Rattle.std.proofs.Common.{◌≡◌, ℕ, ◌==◌, ◌&&◌, if◌then◌else◌, Bool, true, false, List, [], ◌∷◌, Result, Ok, Err, IfOk, refl, sym, ap}
+use Rattle.std.proofs.Common.{◌≡◌, ℕ, ◌==◌, ◌&&◌, if◌then◌else◌, Bool, true, false, List, [], ◌∷◌, Some, Result, Ok, Err, IfOk, refl, sym, ap, arith}
 use Rattle.std.proofs.lemmas.Bool.{eqb-true}
+use Rattle.std.proofs.lemmas.Option.{same_Some}
 use Rattle.act_audit.specs.Journal.{as_one_caller, is_of_one_caller, right_text}
+use Rattle.act_engine.specs.Writing.{IsProperPart}
+use Rattle.act_io.specs.Page.{Page, written_on}
 use Rattle.act_model.specs.Names.{NameLists}
 use Rattle.act_model.specs.declared.journal.Item.{Item}
 use Rattle.act_portfolio.specs.Reading.{Accepted}
-use Rattle.act_top.specs.Output.{eval_text, output_of}
+use Rattle.act_eval.specs.Evaluation.{eval_text}
+use Rattle.act_transcript.specs.Text.{output_of}
 
 both : (a b : Bool) → (a && b) ≡ true → (a ≡ true) × (b ≡ true)
 both true b is = (refl, is)
@@ -25,7 +29,26 @@ pub alone-is : (portfolio : Accepted) (names : NameLists) (items : List Item) (w
 alone-is portfolio names items true one = rw one refl
 alone-is portfolio names items false one = refl
 
+-- and that of several callers
+pub several-is : (portfolio : Accepted) (names : NameLists) (items : List Item) (with_work : Bool) → is_of_one_caller items ≡ false → output_of portfolio names items ≡ right_text portfolio names items with_work
+several-is portfolio names items true several = rw several refl
+several-is portfolio names items false several = refl
+
 -- what holds whatever was answered
 pub whatever : {A E : Type 0} (result : Result A E) (P : Type 0) → P → IfOk result (λ _. P)
 whatever (Ok answer) P holds = holds
 whatever (Err fault) P holds = tt
+
+-- ---- sheets
+
+-- what is seen of a sheet
+abbrev pub on_sheet : List ℕ → Page
+on_sheet bytes = record { written = Some bytes; faults = 0 }
+
+-- it never fails
+pub never-fails : (text before after : List ℕ) → IsProperPart text (on_sheet before) (on_sheet after) → ⊥
+never-fails text before after part = let never : ◌≡◌ {A = ℕ} 0 1 = ap (λ (page : Page). page.faults) part.put in omega arith
+
+-- a text that was written whole on an empty one
+pub sheet-whole : (bytes text : List ℕ) → on_sheet bytes ≡ written_on (on_sheet []) text → bytes ≡ text
+sheet-whole bytes text put = same_Some bytes text (ap (λ (page : Page). page.written) put)

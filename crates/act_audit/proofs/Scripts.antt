@@ -8,7 +8,7 @@ use Rattle.act_model.specs.Asks.{appends}
 use Rattle.act_model.specs.Journal.{is_append}
 use Rattle.act_model.specs.declared.journal.Item.{Item}
 use Rattle.act_model.specs.declared.journal.Line.{Line}
-use Rattle.act_top.proofs.Texts.{drop-next, drop-past}
+use Rattle.act_engine.proofs.Lists.{drop-next, drop-past}
 
 -- the lines of items from a line on
 abbrev pub script_from : ℕ → List Item → List Line

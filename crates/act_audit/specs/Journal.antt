@@ -11,7 +11,9 @@ use Rattle.act_portfolio.specs.Reading.{Accepted}
 use Rattle.act_print.specs.Conditions.{IsItem}
 use Rattle.act_print.specs.Faults.{IsTextOf}
 use Rattle.act_print.specs.Printed.{Transcript}
-use Rattle.act_top.specs.Output.{eval_text, output_of, too_much_asked}
+use Rattle.act_eval.specs.Evaluation.{eval_text}
+use Rattle.act_job.specs.Weight.{too_much_asked}
+use Rattle.act_transcript.specs.Text.{output_of}
 
 -- a journal that can be printed: fewer than 2^64 items of callers from 1 to 16, of which each names what there is
 pub record IsJournal (names : NameLists) (items : List Item) : Type 0 where

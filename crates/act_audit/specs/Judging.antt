@@ -1,36 +1,28 @@
 -- What the calls below the audit answer. This profile's own.
-use Rattle.std.specs.Prelude.{◌≡◌, ◌⊎◌, ◌<◌, ◌≤◌, ℕ, ◌+◌, ◌-◌, ◌^◌, true, List, [], ◌∷◌, ◌++◌, get_or, length, map, slice_set, None, Some, IfSome, Result, Ok, Err, Vec}
+use Rattle.std.specs.Prelude.{◌≡◌, ◌⊎◌, ◌<◌, ◌≤◌, ℕ, ◌+◌, ◌-◌, ◌^◌, true, List, [], ◌∷◌, ◌++◌, get_or, length, map, slice_set, None, Some, Vec}
 use Rattle.std.specs.List.{All}
 use Rattle.std.specs.declared.alloc.Global.{Global}
 use Rattle.act_audit.specs.Journal.{first_past, right_text}
 use Rattle.act_audit.specs.Order.{IsFirstDisorder, IsOfScripts}
-use Rattle.act_audit.specs.Text.{first_difference, has_work_line, most_text, text_in}
+use Rattle.act_audit.specs.Text.{first_difference, has_work_line, text_in}
 use Rattle.act_audit.specs.declared.verdict.Verdict.{Verdict}
 use Rattle.act_audit.specs.declared.verdict.Verdict.TheVariants.{Right, Wrong, Disorder}
 use Rattle.act_model.specs.Answer.{Reply}
 use Rattle.act_model.specs.Asks.{asks_of}
 use Rattle.act_model.specs.Journal.{appends_entry, is_known}
+use Rattle.act_model.specs.Limits.{most_callers}
 use Rattle.act_model.specs.Names.{NameLists}
 use Rattle.act_model.specs.declared.journal.Item.{Item}
 use Rattle.act_model.specs.declared.journal.Line.{Line}
 use Rattle.act_portfolio.specs.Reading.{Accepted}
 use Rattle.act_print.specs.Faults.{IsFirstFault, IsTextOf}
 use Rattle.act_print.specs.Printed.{Transcript}
-use Rattle.act_top.specs.Halts.{refusal_of}
-use Rattle.act_top.specs.Output.{long_outcome}
-use Rattle.act_top.specs.declared.halt.Halt.{Halt}
-
--- the bytes of a text of that name are read where they are no more than there may be, and refused where they are more, unless reading failed or
--- memory ran out
-abbrev pub ReadsText : List ℕ → List ℕ → Result (Vec ℕ Global) Halt → Type 0
-ReadsText name bytes (Ok read) = (read.items ≡ bytes) × (length bytes ≤ most_text)
-ReadsText name bytes (Err halt) = IfSome (refusal_of halt) (λ outcome. (most_text < length bytes) × (outcome ≡ long_outcome name))
 
 -- what is true of a journal that a text has: its callers are from 1 to 16, what its steps name is named, what they append are entries, and its
 -- lines can be counted
 pub record AreItems (names : NameLists) (items : List Item) : Type 0 where
   pub from_one : All (λ (item : Item). 1 ≤ item.caller) items
-  pub to_most : All (λ (item : Item). item.caller ≤ 16) items
+  pub to_most : All (λ (item : Item). item.caller ≤ most_callers) items
   pub known : All (λ (item : Item). is_known names item.step ≡ true) items
   pub entries : All (λ (item : Item). appends_entry item.step ≡ true) items
   pub few : length items + 2 < 2 ^ 32

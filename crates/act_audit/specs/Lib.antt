@@ -1,11 +1,8 @@
-pub mod Asked
-pub mod Audited
-pub mod Ending
+pub mod Audit
 pub mod Journal
 pub mod Judging
+pub mod Laws
 pub mod Order
 pub mod Text
-pub mod Told
 pub mod Verdict
 pub mod Words
-pub mod Written

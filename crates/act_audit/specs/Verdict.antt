@@ -3,8 +3,8 @@ use Rattle.std.specs.Prelude.{◌≡◌, ◌⊎◌, ◌≤◌, ℕ, List, [], �
 use Rattle.act_audit.specs.Journal.{IsJournal, IsTextOfJournal, first_past, right_text}
 use Rattle.act_audit.specs.Order.{IsFirstDisorder, IsOfScripts}
 use Rattle.act_audit.specs.Text.{first_difference, has_work_line, names_for, text_in}
-use Rattle.act_audit.specs.declared.status.Status.{Status}
-use Rattle.act_audit.specs.declared.status.Status.TheVariants as status
+use Rattle.act_engine.specs.declared.status.Status.{Status}
+use Rattle.act_engine.specs.declared.status.Status.TheVariants as status
 use Rattle.act_audit.specs.declared.verdict.Verdict.{Verdict}
 use Rattle.act_audit.specs.declared.verdict.Verdict.TheVariants.{Right, Wrong, Disorder}
 use Rattle.act_model.specs.Asks.{asks_of}
@@ -14,7 +14,7 @@ use Rattle.act_portfolio.specs.Reading.{Accepted}
 use Rattle.act_print.specs.Faults.{IsFirstFault}
 use Rattle.act_text.specs.Lines.{line_of}
 use Rattle.act_session.specs.Interleaving.{IsInterleaving}
-use Rattle.act_top.specs.Scripts.{AreScriptsOf, Scripts}
+use Rattle.act_job.specs.Scripts.{AreScriptsOf, Scripts}
 
 -- what is to be judged: the bytes of a text, the portfolio that it is to be of, and the scripts, none where none are given
 pub record AuditJob : Type 0 where
@@ -90,6 +90,6 @@ verdict_line (Disorder line caller) = line_of (codes "order") (decimal line ∷ 
 
 -- the status of a verdict
 abbrev pub verdict_status : Verdict → Status
-verdict_status (Right answers) = status.Right
+verdict_status (Right answers) = status.Done
 verdict_status (Wrong line) = status.Wrong
 verdict_status (Disorder line caller) = status.Wrong

@@ -3,48 +3,45 @@ ghost use Rattle.std.specs.Prelude.{◌≡◌, ◌+◌, ◌-◌, ◌≤◌, ◌<
 ghost use Rattle.std.specs.List.{All};
 ghost use Rattle.act_audit.specs.Journal.{as_one_caller};
 ghost use Rattle.act_audit.specs.Judging.{answer_lists, with_answer};
-ghost use Rattle.act_model.specs.Journal.{is_append};
+ghost use Rattle.act_history.specs.History.{entries_of, replies_of};
+ghost use Rattle.act_model.specs.Journal.{book_of, is_append};
 ghost use Rattle.act_model.specs.Names.{NameLists};
 ghost use Rattle.act_model.specs.declared.journal.Item.{Item as JournalItem};
 ghost use Rattle.act_profile.specs.Answers.{answers_of};
 ghost use Rattle.act_profile.specs.Run.{Contracts};
-ghost use Rattle.act_session.specs.Playing.{replies_of};
-ghost use Rattle.act_top.specs.Output.{items_of};
-ghost use Rattle.act_top.specs.Work.{work_of};
+ghost use Rattle.act_transcript.specs.Text.{items_of};
+ghost use Rattle.act_eval.specs.Work.{work_of};
 
-use act_model::{Answer, Item, Step};
+use act_board::Board;
+use act_eval::{Driver, Evaluation};
+use act_model::{Answer, Item, MOST_CALLERS, Step};
 use act_num::{NoMemory, Steps};
-use act_top::{Evaluation, answer, append};
+use act_transcript::Blocks;
 use std::alloc::Global;
 use std::sync::ledger::Ledger;
 
-/// The most callers of a journal.
-const MOST_CALLERS: usize = 16;
-
-/// The answers to the asks of a script, in its order.
+/// The answers to the asks of lines, in their order, and the board on which they were made.
 pub(crate) fn answers_in_order<L: Ledger>(
     alloc: Global,
-    evaluation: &Evaluation,
+    evaluation: &Evaluation<'_>,
     steps: &mut Steps<L>,
-) -> Result<Vec<Answer>, NoMemory>
-    ensures answers { IfOk result (λ answers. answers.items
-        ≡ answers_of evaluation.now.portfolio.contracts evaluation.now.script.names (items_of evaluation.now.script.lines)) }
-    ensures ticked { IfOk result (λ _. steps.new ≡ steps.old + work_of evaluation.now.portfolio (items_of evaluation.now.script.lines)) }
+) -> Result<(Vec<Answer>, Board), NoMemory>
+    ensures answers { IfOk result (λ made. made.0.items
+        ≡ answers_of evaluation.now.portfolio.contracts evaluation.now.names (items_of evaluation.now.lines)) }
+    ensures portfolio { IfOk result (λ made. made.1.portfolio ≡ evaluation.now.portfolio) }
+    ensures entries { IfOk result (λ made. entries_of made.1 ≡ book_of (items_of evaluation.now.lines)) }
+    ensures ticked { IfOk result (λ _. steps.new ≡ steps.old + work_of evaluation.now.portfolio (items_of evaluation.now.lines)) }
 {
-    let mut board = evaluation.board(alloc)?;
+    let blocks = Blocks::none(alloc, evaluation.names);
+    let mut driver = Driver::new(alloc, evaluation, blocks)?;
     let mut answers = Vec::new(alloc);
-    let mut work = 0;
-    for step in &evaluation.script.lines {
+    for step in evaluation.lines {
         match step.step {
-            Step::Append(entry) => append(&mut board, entry)?,
-            Step::Ask(asked) => {
-                let portfolio = &evaluation.portfolio;
-                let reply = answer(alloc, portfolio, &mut board, asked, &mut work, steps)?;
-                answers.push(reply)?;
-            }
+            Step::Append(entry) => driver.append(entry)?,
+            Step::Ask(asked) => answers.push(driver.answer(alloc, asked, steps)?)?,
         }
     }
-    Ok(answers)
+    Ok((answers, driver.board))
 }
 
 /// The answers to the asks of a journal, given in its order, caller by caller: each list by number.

@@ -7,13 +7,12 @@ ghost use Rattle.act_model.specs.declared.journal.Item.{Item as JournalItem};
 ghost use Rattle.act_model.specs.Journal.{is_append};
 ghost use Rattle.act_model.specs.declared.journal.Line.{Line as StepLine};
 ghost use Rattle.act_script.specs.Asks.{AsksBelow};
-ghost use Rattle.act_top.specs.Output.{too_much_asked};
+ghost use Rattle.act_job.specs.Weight.{too_much_asked};
 
-use act_model::{Item, Line, MOST_ENTRIES, Step};
+use act_job::first_overweight;
+use act_model::{Item, Line, MOST_CALLERS, MOST_ENTRIES, Step};
 use act_num::NoMemory;
 use act_portfolio::Portfolio;
-use act_script::{All, weigh};
-use act_top::{all_events, weights_of};
 use std::alloc::Global;
 use std::slice;
 
@@ -82,13 +81,7 @@ fn ask_past(
     requires few { count_by (λ (line : StepLine). is_append line.step) script.now.items ≤ MOST_ENTRIES }
     ensures { IfOk result (λ found. found ≡ option_map (λ (ask : ℕ × ℕ). ask.1) (too_much_asked portfolio.now (script.now.items ∷ []))) }
 {
-    let weights = weights_of(alloc, portfolio)?;
-    let all = All {
-        weight: weights.all,
-        contracts: u64::from(portfolio.named()),
-    };
-    let scripts = slice::from_ref(script);
-    match weigh(&weights.each, all, all_events(scripts), scripts) {
+    match first_overweight(alloc, portfolio, slice::from_ref(script))? {
         Some((_, line)) => Ok(Some(u64::from(line))),
         None => Ok(None),
     }
@@ -119,7 +112,7 @@ fn is_entry(item: &Item) -> bool
 /// How many asks a journal has.
 pub(crate) fn ask_count(items: &[Item]) -> u64
     requires from_one { Each (λ (item : JournalItem). 1 ≤ item.caller) items.now }
-    requires to_most { Each (λ (item : JournalItem). item.caller ≤ 16) items.now }
+    requires to_most { Each (λ (item : JournalItem). item.caller ≤ MOST_CALLERS) items.now }
     ensures { result ≡ length (asks_of items.now) }
 {
     items.len() as u64 - entry_count(items)

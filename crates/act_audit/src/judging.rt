@@ -1,7 +1,8 @@
 //! What is said of a text.
-ghost use Rattle.std.specs.Prelude.{◌≡◌, ◌≢◌, ◌⊎◌, ◌≤◌, ◌<◌, ◌+◌, ◌^◌, ℕ, List, Ok, length, IfOk, MatchOption};
+ghost use Rattle.std.specs.Prelude.{◌≡◌, ◌≢◌, ◌⊎◌, ◌≤◌, ◌<◌, ◌+◌, ◌^◌, ℕ, List, length, IfOk, MatchOption};
 ghost use Rattle.std.specs.List.{All};
-ghost use Rattle.act_audit.specs.Ending.{ComputesAsEval};
+ghost use Rattle.std.specs.Arc.{arc_value};
+ghost use Rattle.act_audit.specs.Audit.{ComputesAsEval};
 ghost use Rattle.act_audit.specs.Journal.{IsTextOfJournal, as_one_caller, one_script, right_text};
 ghost use Rattle.act_audit.specs.Judging.{AreItems, IsOrdered, IsVerdictFor};
 ghost use Rattle.act_audit.specs.Text.{first_difference, has_work_line, most_text, text_in};
@@ -11,21 +12,23 @@ ghost use Rattle.act_model.specs.declared.journal.Item.{Item as JournalItem};
 ghost use Rattle.act_print.specs.Faults.{IsFirstFault, IsTextOf};
 ghost use Rattle.act_print.specs.Printed.{Transcript};
 ghost use Rattle.act_script.specs.Asks.{line_lists};
-ghost use Rattle.act_top.specs.Work.{work_of};
+ghost use Rattle.act_eval.specs.Work.{work_of};
 
 use crate::codes::names_for;
 use crate::job::AuditJob;
-use crate::journal::{ask_count, entry_count, first_past, one_script};
+use crate::journal::{ask_count, first_past, one_script};
 use crate::order::first_disorder;
 use crate::right::write_right;
 use crate::sheet::Sheet;
 use crate::text::{first_difference, parts_of};
 use crate::verdict::Verdict;
-use act_model::{Item, Line, Names};
+use act_engine::Failure;
+use act_eval::Evaluation;
+use act_job::{Job, Scripts};
+use act_model::{Item, Line, MOST_CALLERS, Names};
 use act_num::{NoMemory, Steps};
 use act_portfolio::Portfolio;
 use act_print::{TextFault, read_journal, read_text};
-use act_top::{Evaluation, Script, Scripts, Stop};
 use std::alloc::Global;
 use std::marker::Model;
 use std::sync::Arc;
@@ -53,19 +56,21 @@ pub(crate) fn judge<L: Ledger>(
     steps: &mut Steps<L>,
 ) -> Result<Verdict, NoMemory>
     ensures verdict { IfOk result (λ verdict. IsVerdictOn job verdict) }
-    ensures ticks { (answers : ℕ) → result ≡ Ok (Right answers) → ComputesAsEval job steps.old steps.new }
+    ensures rows { IfOk result (λ verdict. (rows : ℕ) × (steps.new ≡ steps.old + rows)
+        × ((answers : ℕ) → verdict ≡ Right answers → ComputesAsEval job rows)) }
 {
-    let AuditJob {
+    let AuditJob { job, text } = job;
+    let Job {
         portfolio,
-        text,
         scripts,
+        ..
     } = job;
     let Scripts { lists, names, .. } = scripts;
     let names = names_for(names, &text)?;
     match read_journal(alloc, &names, &text)? {
         Some(items) => {
             let journal = Journal { items, names };
-            judge_journal(alloc, portfolio, journal, &text, &lists, steps)
+            judge_journal(alloc, &portfolio, journal, &text, &lists, steps)
         }
         None => no_text(alloc, &names, &text),
     }
@@ -87,7 +92,7 @@ fn no_text(alloc: Global, names: &Names, text: &[u8]) -> Result<Verdict, NoMemor
 /// What is said of a text that begins with a journal.
 fn judge_journal<L: Ledger>(
     alloc: Global,
-    portfolio: Portfolio,
+    portfolio: &Arc<Portfolio, Global>,
     journal: Journal,
     text: &[u8],
     scripts: &[Vec<Line>],
@@ -95,25 +100,24 @@ fn judge_journal<L: Ledger>(
 ) -> Result<Verdict, NoMemory>
     requires within { length text.now ≤ most_text }
     requires items { AreItems journal.names journal.items }
-    requires contracts { journal.names.contracts ≡ portfolio.names.contracts }
-    requires few_scripts { length scripts.now ≤ 16 }
-    ensures verdict { IfOk result (λ verdict. IsVerdictFor portfolio journal.names text.now (line_lists scripts.now) journal.items verdict) }
-    ensures ticks { (answers : ℕ) → result ≡ Ok (Right answers) → steps.new ≡ steps.old + work_of portfolio (as_one_caller journal.items) }
+    requires contracts { journal.names.contracts ≡ (arc_value portfolio.now).names.contracts }
+    requires few_scripts { length scripts.now ≤ MOST_CALLERS }
+    ensures verdict { IfOk result (λ verdict. IsVerdictFor (arc_value portfolio.now) journal.names text.now (line_lists scripts.now) journal.items verdict) }
+    ensures rows { IfOk result (λ verdict. (rows : ℕ) × (steps.new ≡ steps.old + rows)
+        × ((answers : ℕ) → verdict ≡ Right answers → rows ≡ work_of (arc_value portfolio.now) (as_one_caller journal.items))) }
 {
     let Journal { items, names } = journal;
     let lines = one_script(alloc, &items)?;
-    if let Some(line) = first_past(alloc, &portfolio, &items, &lines)? {
+    if let Some(line) = first_past(alloc, portfolio, &items, &lines)? {
         return wrong_at(alloc, &names, text, line);
     }
-    let script = Script {
-        lines,
-        names,
-        entries: entry_count(&items),
+    let evaluation = Evaluation {
+        portfolio,
+        names: &names,
+        lines: &lines,
     };
-    let portfolio = Arc::new(alloc, portfolio)?;
-    let evaluation = Evaluation { portfolio, script };
     match difference(alloc, &evaluation, &items, text, steps)? {
-        Some(line) => wrong_at(alloc, evaluation.names(), text, line),
+        Some(line) => wrong_at(alloc, &names, text, line),
         None => Ok(judge_order(scripts, &items)),
     }
 }
@@ -137,36 +141,36 @@ fn wrong_at(alloc: Global, names: &Names, text: &[u8], line: u64) -> Result<Verd
 /// The first line in which a text differs from the right text of its journal, or None where it is that text.
 fn difference<L: Ledger>(
     alloc: Global,
-    evaluation: &Evaluation,
+    evaluation: &Evaluation<'_>,
     items: &[Item],
     text: &[u8],
     steps: &mut Steps<L>,
 ) -> Result<Option<u64>, NoMemory>
-    requires script { evaluation.now.script.lines ≡ one_script items.now }
-    requires items { AreItems evaluation.now.script.names items.now }
+    requires script { evaluation.now.lines ≡ one_script items.now }
+    requires items { AreItems evaluation.now.names items.now }
     ensures line { IfOk result (λ found. MatchOption found
-        (text.now ≡ right_text evaluation.now.portfolio evaluation.now.script.names items.now (has_work_line text.now))
-        (λ line. (text.now ≢ right_text evaluation.now.portfolio evaluation.now.script.names items.now (has_work_line text.now))
-        × (line ≡ first_difference text.now (right_text evaluation.now.portfolio evaluation.now.script.names items.now (has_work_line text.now))))) }
+        (text.now ≡ right_text evaluation.now.portfolio evaluation.now.names items.now (has_work_line text.now))
+        (λ line. (text.now ≢ right_text evaluation.now.portfolio evaluation.now.names items.now (has_work_line text.now))
+        × (line ≡ first_difference text.now (right_text evaluation.now.portfolio evaluation.now.names items.now (has_work_line text.now))))) }
     ensures ticked { IfOk result (λ _. steps.new ≡ steps.old + work_of evaluation.now.portfolio (as_one_caller items.now)) }
 {
     let mut sheet = Sheet::new(alloc, text);
     let with_work = parts_of(text).has_work;
     match write_right(alloc, evaluation, items, with_work, &mut sheet, steps) {
-        Ok(_) => {
+        Ok(()) => {
             let (front, rest) = sheet.parts();
             Ok(first_difference(text, front, rest))
         }
-        Err(Stop::Memory) => Err(NoMemory),
-        Err(Stop::Sink) => unreachable!(),
+        Err(Failure::Memory) => Err(NoMemory),
+        Err(Failure::Sink) => unreachable!(),
     }
 }
 
 /// What is said of the right text of a journal.
 fn judge_order(scripts: &[Vec<Line>], items: &[Item]) -> Verdict
     requires from_one { All (λ (item : JournalItem). 1 ≤ item.caller) items.now }
-    requires to_most { All (λ (item : JournalItem). item.caller ≤ 16) items.now }
-    requires few_scripts { length scripts.now ≤ 16 }
+    requires to_most { All (λ (item : JournalItem). item.caller ≤ MOST_CALLERS) items.now }
+    requires few_scripts { length scripts.now ≤ MOST_CALLERS }
     requires few { length items.now < 2 ^ 32 }
     ensures { IsOrdered (line_lists scripts.now) items.now result }
 {

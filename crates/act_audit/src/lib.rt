@@ -7,15 +7,15 @@ mod codes;
 mod job;
 mod journal;
 mod judging;
+mod laws;
 mod order;
 mod right;
 mod sheet;
-mod status;
 mod text;
 mod top;
 mod verdict;
 mod words;
 
-pub use status::Status;
+pub use laws::{audits_end_as_told, statuses_tell_faults, verdicts_are_told};
 pub use top::audit_top;
 pub use verdict::{Verdict, no_two_verdicts_are_both_so, right_texts_are_of_the_scripts};

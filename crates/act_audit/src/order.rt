@@ -7,7 +7,7 @@ ghost use Rattle.act_script.specs.Asks.{line_lists};
 ghost use Rattle.act_session.specs.Interleaving.{IsInterleaving, steps_of};
 
 use crate::journal::FIRST_LINE;
-use act_model::{Item, Line, Step};
+use act_model::{Item, Line, MOST_CALLERS, Step};
 
 /// A line of a journal that is out of order, and whose step isn't there.
 #[derive(Clone, Copy)]
@@ -20,13 +20,13 @@ pub(crate) struct Disorder {
 /// journal is an interleaving of the scripts.
 pub(crate) fn first_disorder(scripts: &[Vec<Line>], items: &[Item]) -> Option<Disorder>
     requires from_one { All (λ (item : JournalItem). 1 ≤ item.caller) items.now }
-    requires to_most { All (λ (item : JournalItem). item.caller ≤ 16) items.now }
-    requires few_scripts { length scripts.now ≤ 16 }
+    requires to_most { All (λ (item : JournalItem). item.caller ≤ MOST_CALLERS) items.now }
+    requires few_scripts { length scripts.now ≤ MOST_CALLERS }
     requires few { length items.now < 2 ^ 32 }
     ensures { MatchOption result (IsInterleaving (line_lists scripts.now) items.now)
         (λ disorder. IsFirstDisorder (line_lists scripts.now) items.now disorder.line disorder.caller) }
 {
-    let mut made = [0; 16];
+    let mut made = [0; MOST_CALLERS];
     for (place, item) in items.iter().enumerate() {
         let script = item.caller as usize - 1;
         if !is_step(step_at(scripts, script, made[script]), item.step) {
@@ -60,8 +60,8 @@ fn is_step(found: Option<Step>, step: Step) -> bool
 }
 
 /// The first caller that has made fewer steps than its script has, at that line.
-fn first_short(scripts: &[Vec<Line>], made: &[usize; 16], line: u64) -> Option<Disorder>
-    requires few_scripts { length scripts.now ≤ 16 }
+fn first_short(scripts: &[Vec<Line>], made: &[usize; MOST_CALLERS], line: u64) -> Option<Disorder>
+    requires few_scripts { length scripts.now ≤ MOST_CALLERS }
     ensures { MatchOption result (IsNoneShort (line_lists scripts.now) made.now)
         (λ disorder. (disorder.line ≡ line) × IsFirstShort (line_lists scripts.now) made.now disorder.caller) }
 {

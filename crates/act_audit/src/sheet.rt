@@ -1,6 +1,6 @@
 //! The right text, gathered beside the text at hand.
 ghost use Rattle.std.specs.Prelude.{◌≡◌, ℕ, List, [], ◌++◌, Some, Ok, length};
-ghost use Rattle.act_io.specs.Put.{Puts, put_faults};
+ghost use Rattle.act_io.specs.Page.{Puts};
 
 use act_io::{PutFault, Sink};
 use std::alloc::Global;
@@ -46,14 +46,11 @@ impl<'a> Sheet<'a> {
 }
 
 impl<'a> Sink for Sheet<'a> {
-    ghost written = { λ s. Some s };
-
-    ghost faults = { λ _. 0 };
+    ghost page = { λ s. record { written = Some s; faults = 0 } };
 
     fn put(&mut self, piece: &[u8]) -> Result<usize, PutFault>
-        ensures took { Puts piece.now (Some self.old) (Some self.new) result }
+        ensures took { Puts piece.now (record { written = Some self.old; faults = 0 }) result (record { written = Some self.new; faults = 0 }) }
         ensures empty { length piece.now ≡ 0 → result ≡ Ok 0 }
-        ensures faults { 0 ≡ put_faults result 0 }
     {
         if piece.is_empty() {
             return Ok(0);
@@ -67,9 +64,8 @@ impl<'a> Sink for Sheet<'a> {
     }
 
     fn put_lines(&mut self, text: &[u8]) -> Result<usize, PutFault>
-        ensures took { Puts text.now (Some self.old) (Some self.new) result }
+        ensures took { Puts text.now (record { written = Some self.old; faults = 0 }) result (record { written = Some self.new; faults = 0 }) }
         ensures empty { length text.now ≡ 0 → result ≡ Ok 0 }
-        ensures faults { 0 ≡ put_faults result 0 }
     {
         self.put(text)
     }

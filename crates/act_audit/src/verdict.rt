@@ -2,14 +2,13 @@
 ghost use Rattle.std.specs.Prelude.{◌≡◌, IfOk};
 ghost use Rattle.act_audit.specs.Verdict.{OneVerdict, RightIsOfScripts, verdict_line, verdict_status};
 
-use crate::status::Status;
+use act_engine::{Status, line_of};
 use act_num::NoMemory;
-use act_top::line_of;
 use itoa::Buffer;
 use std::alloc::Global;
 
 /// What is said of a text. Lines are counted from 1; one that is missing is the one behind the last.
-#[derive(Clone, Copy, Debug, PartialEq, Eq)]
+#[derive(Clone, Copy)]
 pub enum Verdict {
     /// It is right, with so many answers.
     Right(u64),
@@ -25,7 +24,7 @@ impl Verdict {
         ensures { result ≡ verdict_status self }
     {
         match self {
-            Verdict::Right(_) => Status::Right,
+            Verdict::Right(_) => Status::Done,
             Verdict::Wrong(_) | Verdict::Disorder(_, _) => Status::Wrong,
         }
     }

@@ -2,10 +2,11 @@
 ghost use Rattle.std.specs.Prelude.{◌≡◌, map, string_bytes};
 ghost use Rattle.act_audit.specs.Words.{audit_of};
 
+use act_model::MOST_CALLERS;
 use std::marker::Model;
 
-/// The most scripts, each of a caller.
-const MOST_SCRIPTS: usize = 16;
+/// What is written where the words are of no form.
+pub(crate) const USAGE: &[u8] = b"usage: P TEXT [S..]\n";
 
 /// The names of the files that an audit reads: the portfolio, the text, and the scripts of its callers, of which there may be none.
 #[derive(Drop)]
@@ -18,13 +19,13 @@ pub(crate) struct AuditWords<'a> {
 impl<'a> Model for AuditWords<'a> {
     ghost use Rattle.std.specs.Prelude.{◌≤◌, length, map, string_bytes};
     ghost use Rattle.act_audit.specs.Words as words;
-    ghost use Rattle.act_top.specs.DeskCommand.{most_scripts};
+    ghost use Rattle.act_model.specs.Limits.{most_callers};
 
     ghost Value = { words.AuditFiles };
 
     ghost view = { λ w. record { portfolio = w.portfolio.now; text = w.text.now; scripts = map string_bytes w.scripts.now } };
 
-    ghost invariant = { λ w. length w.scripts.now ≤ most_scripts };
+    ghost invariant = { λ w. length w.scripts.now ≤ most_callers };
 }
 
 impl<'a> AuditWords<'a> {
@@ -34,7 +35,7 @@ impl<'a> AuditWords<'a> {
     {
         match words {
             [portfolio, text, scripts @ ..] => {
-                if scripts.len() > MOST_SCRIPTS {
+                if scripts.len() > MOST_CALLERS {
                     return None;
                 }
                 Some(AuditWords {

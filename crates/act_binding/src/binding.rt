@@ -42,7 +42,8 @@ pub(crate) enum Binding {
     },
 }
 
-/// The terms of contracts, bound to what their references are to, and behind them those of their shadows.
+/// The terms of contracts, bound to what their references are to, and behind them those of their shadows. NoMemory where memory
+/// runs out, or where a guarantee has more references than a file has bytes.
 pub fn terms_of(
     alloc: Global,
     names: &Names,

@@ -12,7 +12,7 @@ use act_terms::{NamedTerms, Reference};
 use std::alloc::Global;
 
 /// For each contract the number that the next shadow has: shadows stand behind all contracts, in the order of the caps and
-/// floors.
+/// floors. NoMemory where memory runs out.
 pub fn shadow_numbers(alloc: Global, named: &[NamedTerms]) -> Result<Vec<u32>, NoMemory>
     requires few { length named.now ≤ 2 ^ 28 }
     ensures { IfOk result (λ numbers. numbers.items ≡ shadow_numbers (length named.now) named.now) }
@@ -37,7 +37,7 @@ fn behind(kind: &Kind, next: u32) -> u32
     }
 }
 
-/// The shadows of contracts, whose numbers are those from these.
+/// The shadows of contracts, whose numbers are those from these. NoMemory where memory runs out.
 pub fn shadows(
     alloc: Global,
     listing: &Listing,
@@ -133,7 +133,7 @@ fn reset_within(capfl: &Capfl, reset: &RateReset) -> RateReset
     }
 }
 
-/// The children of the contracts, and behind them those of so many shadows, which have none.
+/// The children of the contracts, and behind them those of so many shadows, which have none. NoMemory where memory runs out.
 pub fn child_lists(
     alloc: Global,
     listing: &Listing,

@@ -1,5 +1,5 @@
 -- What evaluations make.
-use Rattle.std.proofs.Common.{◌≡◌, ◌+◌, ◌<◌, ◌≤◌, ℕ, List, [], int_lt, not, inl, inr, Some, None, Option, Ok, Err, IfOk, Result, arith, ℤ, length, map, refl, sym, ap, subst, ◌∙◌, slice_index_or}
+use Rattle.std.proofs.Common.{◌≡◌, ◌<◌, ◌≤◌, ℕ, List, [], int_lt, not, inl, inr, Some, None, Option, Ok, arith, ℤ, length, map, refl, sym, ap, subst, ◌∙◌, slice_index_or}
 use Rattle.std.specs.Arc.{arc_value}
 use Rattle.std.specs.List.{slice_get}
 use Rattle.std.specs.declared.alloc.Global.{Global}
@@ -11,7 +11,6 @@ use Rattle.act_model.specs.Run.{EventPlan, Stream}
 use Rattle.act_model.specs.declared.observed.Obs.{Obs}
 use Rattle.act_model.specs.declared.run.Row.{Row}
 use Rattle.act_model.specs.declared.terms.Terms.{Terms}
-use Rattle.act_num.specs.declared.NoMemory.{NoMemory}
 use Rattle.act_portfolio.proofs.Unrolling.{over-children}
 use Rattle.act_portfolio.specs.Reading.{Accepted}
 use Rattle.act_profile.specs.Kept.{kept_of}
@@ -47,8 +46,3 @@ goes-from run cached cut kept is may = subst (λ (r : Option (Arc Stream Global)
 -- a run that is kept whole is the run itself
 pub whole-run : (run kept : Stream) (cut : Option ℤ) → GoesOnFrom run kept cut → kept_of kept cut ≡ kept_by kept None → kept ≡ run
 whole-run run kept cut goes whole = whole_is run kept cut (sym whole ∙ goes.same)
-
--- ticks, counted by the run that was meant
-pub counted : {A : Type 0} (of : A → Stream) (r : Result A NoMemory) (run : Stream) (n m : ℕ) → IfOk r (λ s. of s ≡ run) → IfOk r (λ s. n ≡ m + length (of s).rows) → IfOk r (λ s. n ≡ m + length run.rows)
-counted of (Ok s) run n m is ticks = ticks ∙ ap (λ (r : Stream). m + length r.rows) is
-counted of (Err e) run n m is ticks = tt

@@ -12,17 +12,16 @@ use act_cut::IndexedBook;
 use act_date::Day;
 use act_history::Mark;
 use act_keeping::caller::{
-    Caller, MOST_ASKS, MOST_CALLERS, MOST_OPEN, all_left, callers_of, close_oldest, oldest,
-    open_ask, set_left, spend,
+    Caller, all_left, callers_of, close_oldest, oldest, open_ask, set_left, spend,
 };
 use act_keeping::dropping::drop_runs;
-use act_keeping::latest::{Latest, none_yet, put_latest};
+use act_keeping::latest::{LatestResult, none_yet, put_latest};
 use act_keeping::pair::{Pair, Progress, first_waiting, is_claimed, put_progress};
 use act_keeping::ready::{Ready, make_room_for_pairs, nothing_ready};
 use act_keeping::room::{
     append_entry, make_room, make_room_for_step, put_ask, put_entry, put_mark,
 };
-use act_model::{Answer, Asked, Item, MOST_ENTRIES, Obs};
+use act_model::{Answer, Asked, Item, MOST_ASKS, MOST_CALLERS, MOST_ENTRIES, MOST_OPEN, Obs};
 use act_num::NoMemory;
 use act_portfolio::Portfolio;
 use std::alloc::Global;
@@ -48,7 +47,7 @@ pub struct Board {
     /// For each contract those that refer to it.
     parents: Vec<Vec<u32>>,
     /// Of each contract the result at the greatest version, where it has one.
-    latest: Vec<Option<Latest>>,
+    latest: Vec<Option<LatestResult>>,
     /// No pair before this place is waiting.
     front: usize,
     /// Where the dropping of runs goes on: pairs before this place were gone over.
@@ -63,9 +62,9 @@ impl Model for Board {
     ghost use Rattle.std.specs.Prelude.{vec_capacity};
     ghost use Rattle.std.specs.Arc.{arc_value};
     ghost use Rattle.act_history.specs.History.{History};
-    ghost use Rattle.act_keeping.specs.Kept.{IsBoard};
+    ghost use Rattle.act_keeping.specs.Keeping.{IsBoard};
     ghost use Rattle.act_keeping.specs.Latest.{AreLatest};
-    ghost use Rattle.act_keeping.specs.Ready.{IsReady};
+    ghost use Rattle.act_keeping.specs.Ready.{AreReadyLists};
 
     ghost Value = { History };
 
@@ -73,7 +72,7 @@ impl Model for Board {
 
     ghost invariant = { λ b. IsBoard (record { portfolio = arc_value b.portfolio; quotas = b.quotas.items; marks = b.marks.items }) (record { capacity = vec_capacity b.marks; items = b.items.items; book = b.book; callers = b.callers.items; pairs = b.pairs.items; front = b.front; owing = b.owing; given_up = b.given_up })
         × AreLatest (record { portfolio = arc_value b.portfolio; quotas = b.quotas.items; marks = b.marks.items }) b.latest.items
-        × IsReady (record { portfolio = arc_value b.portfolio; quotas = b.quotas.items; marks = b.marks.items }) b.pairs.items b.ready.lacking.items b.ready.places.items (vec_capacity b.ready.places) b.parents.items };
+        × AreReadyLists (record { portfolio = arc_value b.portfolio; quotas = b.quotas.items; marks = b.marks.items }) b.pairs.items b.ready.lacking.items b.ready.places.items (vec_capacity b.ready.places) b.parents.items };
 }
 
 impl Board {
@@ -107,8 +106,7 @@ impl Board {
         requires fits { sum quotas.now ≤ MOST_ENTRIES }
         ensures { IfOk result (λ board. board ≡ record { portfolio = arc_value portfolio; quotas = quotas.now; marks = [] }) }
     {
-        // A portfolio tells of its order only where it is asked for it, and the invariant speaks of that.
-        let _ = portfolio.order();
+        portfolio.contracts_are_linked();
         let owing = quotas.len() + 1;
         let mut marks = Vec::new(alloc);
         make_room(&mut marks, 0, owing)?;

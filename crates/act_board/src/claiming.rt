@@ -4,7 +4,7 @@ ghost use Rattle.std.specs.Arc.{arc_value};
 ghost use Rattle.std.specs.List.{slice_get};
 ghost use Rattle.act_refs.specs.Path.{IsChild, children_of};
 ghost use Rattle.act_history.specs.History.{History, has_result};
-ghost use Rattle.act_keeping.specs.Kept.{AreResults, AreSorted, HaveResults, IsFreeAt, IsPast, IsResult, IsThere, Keeps, LacksResult, NoneIsFree, answered, numbered};
+ghost use Rattle.act_keeping.specs.Keeping.{AreResults, AreSorted, HaveResults, IsFreeAt, IsPast, IsResult, IsThere, Keeps, LacksResult, NoneIsFree, answered, numbered};
 ghost use Rattle.act_keeping.specs.declared.pair.Pair.{Pair};
 
 use act_keeping::pair::{Pair, Progress, find, is_done};

@@ -31,8 +31,7 @@ pub(crate) fn cuts_between(
         ≡ kept_of (run_of portfolio.now.contracts (take other book.old) c) cut) }
     ensures same { book.new ≡ book.old }
 {
-    // A portfolio tells how its contracts are linked only where it is asked for their terms and order.
-    let _ = portfolio.order();
+    portfolio.contracts_are_linked();
     let contracts = portfolio.terms().len();
     let to = one.max(other);
     let seen = book.snapshot(to)?;

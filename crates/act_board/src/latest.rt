@@ -9,11 +9,11 @@ ghost use Rattle.act_date.specs.Civil.{last_day};
 ghost use Rattle.act_profile.specs.Reads.{codes_read, cut_by};
 ghost use Rattle.act_profile.specs.Run.{deepest};
 ghost use Rattle.act_keeping.specs.Latest.{IsCached, NoneYet, is_later};
-ghost use Rattle.act_keeping.specs.declared.latest.Latest.{Latest};
+ghost use Rattle.act_keeping.specs.declared.latest.LatestResult.{LatestResult};
 
 use act_book::Snapshot as Entries;
 use act_cut::IndexedBook;
-use act_keeping::latest::{Cached, Latest, cut_between, end_of};
+use act_keeping::latest::{Cached, LatestResult, cut_between, end_of};
 use act_num::NoMemory;
 use act_portfolio::Portfolio;
 use std::alloc::Global;
@@ -34,7 +34,7 @@ pub(crate) fn codes_read(portfolio: &Portfolio) -> usize
 pub(crate) fn cached_for(
     portfolio: &Portfolio,
     book: &mut IndexedBook,
-    latest: &[Option<Latest>],
+    latest: &[Option<LatestResult>],
     contract: u32,
     seen: &Entries,
     version: u64,
@@ -43,15 +43,13 @@ pub(crate) fn cached_for(
     requires count { length latest.now ≡ length portfolio.now.contracts.terms }
     requires version { version ≤ length book.old }
     requires seen { seen.now ≡ take version book.old }
-    requires latest { (one : Latest) → slice_get latest.now contract ≡ Some (Some one) → one.version ≤ length book.old }
+    requires latest { (one : LatestResult) → slice_get latest.now contract ≡ Some (Some one) → one.version ≤ length book.old }
     ensures cached { IfOk result (λ cached. IsCached portfolio.now.contracts book.old contract version (slice_index_or latest.now contract None) cached) }
     ensures same { book.new ≡ book.old }
     ensures linked { IsLinked portfolio.now.contracts }
     ensures within_depth { IsWithinDepth deepest portfolio.now.contracts contract }
 {
-    // A portfolio tells how its contracts are linked only where it is asked for their terms and order.
-    let _ = portfolio.terms();
-    let _ = portfolio.order();
+    portfolio.contracts_are_linked();
     match &latest[contract as usize] {
         Some(latest) => {
             let cut = cut_between(

@@ -15,7 +15,6 @@ mod wanting;
 mod work;
 
 pub use act_history::Mark;
-pub use act_keeping::caller::MOST_CALLERS;
 pub use board::Board;
 pub use history::Entry;
 pub use outcome::{AppendFault, AskFault, Claim, Collected};

@@ -2,7 +2,7 @@
 ghost use Rattle.std.specs.Prelude.{◌≡◌, ℕ, suc, true, false, ◌+◌, ◌<◌, ◌≤◌, [], Some, length, vec_capacity, OnOk};
 ghost use Rattle.std.specs.List.{All, slice_get};
 ghost use Rattle.act_history.specs.History.{History};
-ghost use Rattle.act_keeping.specs.Kept.{AreSorted, IsPast, Keeps, contract_at};
+ghost use Rattle.act_keeping.specs.Keeping.{AreSorted, IsPast, Keeps, contract_at};
 ghost use Rattle.act_keeping.specs.Ready.{AreApart, AreDescending, AreFree, AreSettled, IsFree, IsNoted, IsPlaced, IsRanked, Lowers, Lacks, MayLower, blocked, lacking_of};
 ghost use Rattle.act_keeping.specs.declared.pair.Pair.{Pair};
 

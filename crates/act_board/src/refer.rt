@@ -13,8 +13,7 @@ use std::alloc::Global;
 pub(crate) fn parents_of(alloc: Global, portfolio: &Portfolio) -> Result<Vec<Vec<u32>>, NoMemory>
     ensures { IfOk result (λ parents. AreParents portfolio.now.contracts.children (child_lists parents.items)) }
 {
-    // A portfolio tells that each contract has children only where it is asked for its order.
-    let _ = portfolio.order();
+    portfolio.contracts_are_linked();
     let count = portfolio.terms().len();
     let mut parents = no_lists(alloc, count)?;
     'contracts: for contract in 0..count {

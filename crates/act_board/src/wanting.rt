@@ -3,7 +3,7 @@ ghost use Rattle.std.specs.Prelude.{◌≡◌, ◌+◌, ◌-◌, ◌<◌, ◌≤
 ghost use Rattle.std.specs.List.{range_with_len};
 ghost use Rattle.act_model.specs.Journal.{contracts_of, is_known};
 ghost use Rattle.act_model.specs.declared.journal.Step.TheVariants.{Ask};
-ghost use Rattle.act_keeping.specs.Kept.{AreSorted};
+ghost use Rattle.act_keeping.specs.Keeping.{AreSorted};
 ghost use Rattle.act_keeping.specs.Wanting.{IsAdded, IsExtended, is_asked};
 
 use act_keeping::pair::{Pair, place_of, want};

@@ -1,12 +1,11 @@
 //! The evaluation of a contract, from when it is handed out until it comes back.
 
 use act_book::Snapshot as Entries;
-use act_date::Day;
 use act_keeping::latest::Cached;
 use act_model::{Observed, Run};
 use act_num::{NoMemory, Steps};
 use act_portfolio::Portfolio;
-use act_run::{evaluate, is_kept_whole, kept_rows, resume_shared};
+use act_run::{Inputs, evaluate, is_kept_whole, kept_rows, resume_shared};
 use std::alloc::Global;
 use std::marker::Model;
 use std::snapshot::Snapshot;
@@ -42,10 +41,10 @@ impl Model for Task {
 impl Task {
     ghost use Rattle.std.specs.Prelude.{◌≡◌, ◌+◌, ◌<◌, Ok, length, map, IfErr, IfOk};
     ghost use Rattle.std.specs.Arc.{arc_value};
-    ghost use Rattle.act_profile.specs.Kept.{kept_of};
     ghost use Rattle.act_refs.specs.Ordered.{order_of};
     ghost use Rattle.act_profile.specs.DayOrder.{AreInDayOrder};
-    ghost use Rattle.act_keeping.specs.Tasks.{AreRunsBelow, GoesOnFrom, MayGoOn, work_over};
+    ghost use Rattle.act_run.specs.Inputs.{run_given};
+    ghost use Rattle.act_keeping.specs.Tasks.{AreRunsBelow, MayGoOn, work_over};
     ghost use Rattle.act_keeping.specs.Work.{outcome, version};
 
     /// The task of a contract over entries, with its children's runs and what it goes on from.
@@ -133,7 +132,8 @@ impl Task {
         })
     }
 
-    /// The contract's run. It goes on from the latest result, where there is one.
+    /// The contract's run. It goes on from the latest result, where there is one. Where that is kept whole, or ended before the cut
+    /// with nothing to add, it is that one.
     fn run<L: Ledger>(
         &self,
         alloc: Global,
@@ -145,60 +145,27 @@ impl Task {
         ensures in_day_order { IfOk result (λ run. AreInDayOrder (arc_value run).rows) }
         ensures ticked { IfOk result (λ _. steps.new + length self.now.kept.rows ≡ steps.old + length (outcome self.now).rows) }
     {
+        let inputs = self.inputs(portfolio);
         match &self.cached.run {
-            Some(kept) => self.resumed(alloc, portfolio, kept, self.cached.cut, steps),
+            Some(kept) => resume_shared(alloc, &inputs, kept, self.cached.cut, steps),
             None => {
-                let run = self.evaluated(alloc, portfolio, steps)?;
+                let run = evaluate(alloc, &inputs, steps)?;
                 Ok(Arc::new(alloc, run)?)
             }
         }
     }
 
-    /// The contract's run, which goes on from what is kept of another. Where that is kept whole, or ended before the cut with nothing
-    /// to add, it is that one.
-    fn resumed<L: Ledger>(
-        &self,
-        alloc: Global,
-        portfolio: &Portfolio,
-        kept: &Arc<Run, Global>,
-        cut: Option<Day>,
-        steps: &mut Steps<L>,
-    ) -> Result<Arc<Run, Global>, NoMemory>
+    /// What the contract's run is a function of.
+    fn inputs<'a>(&'a self, portfolio: &'a Portfolio) -> Inputs<'a, Entries>
         requires portfolio { portfolio.now ≡ self.now.portfolio }
-        requires kept { GoesOnFrom (outcome self.now) (arc_value kept.now) cut }
-        ensures run { IfOk result (λ run. arc_value run ≡ outcome self.now) }
-        ensures in_day_order { IfOk result (λ run. AreInDayOrder (arc_value run).rows) }
-        ensures ticked { IfOk result (λ _. steps.new + length (kept_of (arc_value kept.now) cut).rows ≡ steps.old + length (outcome self.now).rows) }
+        ensures { run_given result ≡ outcome self.now }
     {
-        let terms = &portfolio.terms()[self.contract as usize];
-        let plan = portfolio.plan(self.contract);
-        resume_shared(
-            alloc,
-            terms,
-            plan,
-            &self.children,
-            kept,
-            cut,
-            &self.seen,
-            steps,
-        )
-    }
-
-    /// The contract's run from inception.
-    fn evaluated<L: Ledger>(
-        &self,
-        alloc: Global,
-        portfolio: &Portfolio,
-        steps: &mut Steps<L>,
-    ) -> Result<Run, NoMemory>
-        requires portfolio { portfolio.now ≡ self.now.portfolio }
-        ensures run { IfOk result (λ run. run ≡ outcome self.now) }
-        ensures in_day_order { IfOk result (λ run. AreInDayOrder run.rows) }
-        ensures ticked { IfOk result (λ _. steps.new ≡ steps.old + length (outcome self.now).rows) }
-    {
-        let terms = &portfolio.terms()[self.contract as usize];
-        let plan = portfolio.plan(self.contract);
-        evaluate(alloc, terms, plan, &self.children, &self.seen, steps)
+        Inputs {
+            terms: &portfolio.terms()[self.contract as usize],
+            plan: portfolio.plan(self.contract),
+            children: &self.children,
+            seen: &self.seen,
+        }
     }
 
     /// How many rows of the contract's run weren't kept.

@@ -24,7 +24,7 @@ pub struct Cones {
     pub reads: Vec<Reads>,
 }
 
-/// What is kept of the contracts, which have an order.
+/// What is kept of the contracts, which have an order. NoMemory where memory runs out.
 pub fn all_cones(alloc: Global, contracts: &Contracts, order: &[u32]) -> Result<Cones, NoMemory>
     requires ordered { order_of contracts.now.children ≡ Ok order.now }
     requires children { All (All (λ child. child < length contracts.now.children)) contracts.now.children }

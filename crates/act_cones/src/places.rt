@@ -6,7 +6,7 @@ ghost use Rattle.act_cones.specs.Cones.{AreRanks};
 use act_num::NoMemory;
 use std::alloc::Global;
 
-/// For each contract its place in the order.
+/// For each contract its place in the order. NoMemory where memory runs out.
 pub fn ranks(alloc: Global, children: &[Vec<u32>], order: &[u32]) -> Result<Vec<u32>, NoMemory>
     requires ordered { order_of (map (λ c. c.items) children.now) ≡ Ok order.now }
     requires few { length order.now ≤ 2 ^ 28 }

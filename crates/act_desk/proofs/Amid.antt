@@ -58,22 +58,6 @@ count-asks done line asked is = (count-not appends done line (ap is_append is), 
 -- ---- the way
 
 module _ {A : Type 0} {kept_of : Reply → A} (start : History) (i : ℕ) where
-  -- before the first line
-  pub amid-start : IsPresent start i → IsAmid kept_of start i [] [] start
-  amid-start here = record {
-    portfolio = refl;
-    quotas = refl;
-    present = here;
-    appended = omega arith;
-    made = [];
-    asked = sym (append-nil (asks_by start i));
-    count = refl;
-    versions = All-nil (λ (ask : Asking). ask.version ≤ version_of start);
-    collected = omega arith;
-    fewer = omega arith;
-    told = refl;
-  }
-
   module _ (done : List Line) (answers : List A) (now : History) (is : IsAmid kept_of start i done answers now) where
     -- answers over a book that goes on
     told-on : (more : List Obs) (later : List Obs) → later ≡ entries_of now ++ more

@@ -67,15 +67,6 @@ module _ (k : ℕ) (history : History) where
   pub counts-append : (entry : Obs) → Counts history (mark.Append k entry) k 0 0
   counts-append entry = counts-none (mark.Append k entry) (asks-append k history (mark.Append k entry) (record { caller = k; step = step.Append entry }) entry refl refl) refl
 
-  pub counts-claim : (c v : ℕ) → Counts history (mark.Claim c v) k 0 0
-  counts-claim c v = counts-none (mark.Claim c v) (asks-same k history (mark.Claim c v) refl) refl
-
-  pub counts-finish : (c v : ℕ) → Counts history (mark.Finish c v) k 0 0
-  counts-finish c v = counts-none (mark.Finish c v) (asks-same k history (mark.Finish c v) refl) refl
-
-  pub counts-give_up : Counts history mark.GiveUp k 0 0
-  counts-give_up = counts-none mark.GiveUp (asks-same k history mark.GiveUp refl) refl
-
   pub counts-ask : (asked : Asked) → Counts history (mark.Ask k asked) k 1 0
   counts-ask asked = record {
     made = ap length (asks-own k history (mark.Ask k asked) (record { caller = k; step = step.Ask asked }) asked refl refl (eq-eqb k k refl)) ∙ length-append (asks_by history k) _;

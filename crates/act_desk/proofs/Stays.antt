@@ -49,66 +49,48 @@ first-other k m ms none = by (is_by k (caller_of m)) refl
     by false own = (own, rw own at none)
 
 module _ (k : ℕ) where
-  -- a caller stays as it is
-  pub left-stays : (history : History) (ms : List Mark) → NoneBy k ms → has_left (goes_on history ms) k ≡ has_left history k
-  left-stays history [] none = refl
-  left-stays history (m ∷ ms) none =
+  -- what no mark of another changes stays as it is
+  stays : {X : Type 0} (of : History → X) → ((history : History) (m : Mark) → is_by k (caller_of m) ≡ false → of (and_then history m) ≡ of history)
+      → (history : History) (ms : List Mark) → NoneBy k ms → of (goes_on history ms) ≡ of history
+  stays of each history [] none = refl
+  stays of each history (m ∷ ms) none =
       let first = first-other k m ms none in
-      left-stays (and_then history m) ms first.1 ∙ any-not (is_leave_by k) history.marks m (spares history m k first.0).leave
-
-  pub asked-stays : (history : History) (ms : List Mark) → NoneBy k ms → asks_by (goes_on history ms) k ≡ asks_by history k
-  asked-stays history [] none = refl
-  asked-stays history (m ∷ ms) none =
-      let first = first-other k m ms none in
-      asked-stays (and_then history m) ms first.1 ∙ (spares history m k first.0).asks
-
-  pub appended-stays : (history : History) (ms : List Mark) → NoneBy k ms → appended_by (goes_on history ms) k ≡ appended_by history k
-  appended-stays history [] none = refl
-  appended-stays history (m ∷ ms) none =
-      let first = first-other k m ms none in
-      appended-stays (and_then history m) ms first.1 ∙ count-not (is_append_by k) history.marks m (spares history m k first.0).append
-
-  pub collected-stays : (history : History) (ms : List Mark) → NoneBy k ms → collected_by (goes_on history ms) k ≡ collected_by history k
-  collected-stays history [] none = refl
-  collected-stays history (m ∷ ms) none =
-      let first = first-other k m ms none in
-      collected-stays (and_then history m) ms first.1 ∙ count-not (is_collect_by k) history.marks m (spares history m k first.0).collect
+      stays of each (and_then history m) ms first.1 ∙ each history m first.0
 
   module _ (history found : History) (beside : GoesOnBeside k history found) where
-    -- what is known of a history by its marks
-    pub at-found : (P : History → Type 0) → P (goes_on history beside.marks) → P found
-    at-found P holds = subst P (sym beside.found_is) holds
+    found-stays : {X : Type 0} (of : History → X) → ((history : History) (m : Mark) → is_by k (caller_of m) ≡ false → of (and_then history m) ≡ of history) → of found ≡ of history
+    found-stays of each = ap of beside.found_is ∙ stays of each history beside.marks beside.others
 
-    marked : goes_on history beside.marks ≡ record { portfolio = history.portfolio; quotas = history.quotas; marks = history.marks ++ beside.marks }
-    marked = going-on history beside.marks
-
-    pub present-stays : IsPresent history k → IsPresent found k
-    present-stays here = at-found (λ (h : History). IsPresent h k) (record {
-      from = here.from;
-      to = subst (λ (quotas : List ℕ). k ≤ length quotas) (sym (ap (λ (h : History). h.quotas) marked)) here.to;
-      here = left-stays history beside.marks beside.others ∙ here.here;
-    })
-
-    pub asks-stay : asks_by found k ≡ asks_by history k
-    asks-stay = at-found (λ (h : History). asks_by h k ≡ asks_by history k) (asked-stays history beside.marks beside.others)
-
-    pub collects-stay : collected_by found k ≡ collected_by history k
-    collects-stay = at-found (λ (h : History). collected_by h k ≡ collected_by history k) (collected-stays history beside.marks beside.others)
-
-    pub appends-stay : appended_by found k ≡ appended_by history k
-    appends-stay = at-found (λ (h : History). appended_by h k ≡ appended_by history k) (appended-stays history beside.marks beside.others)
+    marked : found ≡ record { portfolio = history.portfolio; quotas = history.quotas; marks = history.marks ++ beside.marks }
+    marked = beside.found_is ∙ going-on history beside.marks
 
     pub quotas-stay : found.quotas ≡ history.quotas
-    quotas-stay = at-found (λ (h : History). h.quotas ≡ history.quotas) (ap (λ (h : History). h.quotas) marked)
+    quotas-stay = found-stays (λ (h : History). h.quotas) (λ h m other. refl)
+
+    pub names-stay : found.portfolio ≡ history.portfolio
+    names-stay = found-stays (λ (h : History). h.portfolio) (λ h m other. refl)
+
+    pub asks-stay : asks_by found k ≡ asks_by history k
+    asks-stay = found-stays (λ (h : History). asks_by h k) (λ h m other. (spares h m k other).asks)
+
+    pub collects-stay : collected_by found k ≡ collected_by history k
+    collects-stay = found-stays (λ (h : History). collected_by h k) (λ h m other. count-not (is_collect_by k) h.marks m (spares h m k other).collect)
+
+    pub appends-stay : appended_by found k ≡ appended_by history k
+    appends-stay = found-stays (λ (h : History). appended_by h k) (λ h m other. count-not (is_append_by k) h.marks m (spares h m k other).append)
+
+    pub present-stays : IsPresent history k → IsPresent found k
+    present-stays here = record {
+      from = here.from;
+      to = subst (λ (quotas : List ℕ). k ≤ length quotas) (sym quotas-stay) here.to;
+      here = found-stays (λ (h : History). has_left h k) (λ h m other. any-not (is_leave_by k) h.marks m (spares h m k other).leave) ∙ here.here;
+    }
 
     pub open-stays : open_asks found k ≡ open_asks history k
     open-stays = ap (λ (n : ℕ). drop n (asks_by found k)) collects-stay ∙ ap (λ (asks : List Asking). drop (collected_by history k) asks) asks-stay
 
-    pub names-stay : found.portfolio ≡ history.portfolio
-    names-stay = at-found (λ (h : History). h.portfolio ≡ history.portfolio) (ap (λ (h : History). h.portfolio) marked)
-
     pub given_up-stays : is_given_up history ≡ true → is_given_up found ≡ true
-    given_up-stays so = at-found (λ (h : History). is_given_up h ≡ true) (subst (λ (h : History). is_given_up h ≡ true) (sym marked) (list_any-append is_give_up history.marks beside.marks ∙ rw so refl))
+    given_up-stays so = ap is_given_up marked ∙ (list_any-append is_give_up history.marks beside.marks ∙ rw so refl)
 
     -- the book goes on
     pub book-goes : (rest : List Obs) × (book found ≡ book history ++ rest)
@@ -117,7 +99,7 @@ module _ (k : ℕ) where
         filter_map-append item_of history.marks beside.marks in
         let entries : book_of (journal_of history ++ filter_map item_of beside.marks) ≡ book history ++ book_of (filter_map item_of beside.marks) =
         filter_map-append (λ (item : Item). entry_of item.step) (journal_of history) (filter_map item_of beside.marks) in
-        (book_of (filter_map item_of beside.marks), at-found (λ (h : History). book h ≡ book history ++ book_of (filter_map item_of beside.marks)) (ap book marked ∙ (ap book_of items ∙ entries)))
+        (book_of (filter_map item_of beside.marks), ap book marked ∙ (ap book_of items ∙ entries))
 
     pub work-stays : (work : Work) → IsOf history work → IsOf found work
     work-stays work is =

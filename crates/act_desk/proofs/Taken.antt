@@ -11,7 +11,7 @@ use Rattle.act_history.specs.History.{History}
 use Rattle.act_board.specs.declared.history.Entry.{Entry}
 use Rattle.act_board.specs.declared.history.Entry.TheVariants as entry
 use Rattle.act_history.specs.declared.mark.Mark.{Mark}
-use Rattle.act_desk.specs.Step.{IsStep, added, and_maybe}
+use Rattle.act_desk.specs.Step.{HasSeen, IsStep, added, and_maybe}
 use Rattle.act_desk.proofs.Goes.{GoesOnBeside, beside}
 
 -- a mark is of the caller k or of nobody
@@ -65,15 +65,15 @@ pub record IsTurn (old taken : Standing Entry) (found lent : History) : Type 0 w
   pub pass : taken ≡ record old { seen = list_of found; came = list_of found; turns = old.turns + 1; holds = true }
   pub value : lent ≡ found
 
-module _ (old taken : Standing Entry) (found lent : History) (is : IsTurn old taken found lent) where
+module _ {old taken : Standing Entry} {found lent : History} (is : IsTurn old taken found lent) where
   -- what the pass had seen goes on to what it finds, by marks of others
-  pub goes-beside : (k : ℕ) (history : History) → old.number ≡ k → old.seen ≡ list_of history → GoesOnBeside k history lent
-  goes-beside k history number seen =
-      subst (GoesOnBeside k history) (sym is.value)
-      (beside k history found (subst (λ (xs : List Entry). IsPrefix xs (list_of found)) seen is.begins)
-      (ap (λ (n : ℕ). entries_of author_of n (list_of found)) (sym number) ∙ (is.own ∙ (ap (λ (n : ℕ). entries_of author_of n old.seen) number ∙ ap (entries_of author_of k) seen))))
+  pub goes-beside : {k : ℕ} {P : History → Type 0} → old.number ≡ k → (had : HasSeen old P) → GoesOnBeside k had.history lent
+  goes-beside {k} number had =
+      subst (GoesOnBeside k had.history) (sym is.value)
+      (beside k had.history found (subst (λ (xs : List Entry). IsPrefix xs (list_of found)) had.seen is.begins)
+      (ap (λ (n : ℕ). entries_of author_of n (list_of found)) (sym number) ∙ (is.own ∙ (ap (λ (n : ℕ). entries_of author_of n old.seen) number ∙ ap (entries_of author_of k) had.seen))))
 
-  module _ (after : History) (adds : Adds old.number lent after) where
+  module _ {after : History} (adds : Adds old.number lent after) where
     -- it may be given back
     pub may-give : GoesOn author_of taken.number taken.seen (list_of after)
     may-give =
@@ -81,8 +81,8 @@ module _ (old taken : Standing Entry) (found lent : History) (is : IsTurn old ta
         (goes-on old.number found after (subst (λ (h : History). Adds old.number h after) is.value adds))
 
     -- and the call is a step
-    pub is-step : (Call : History → History → Type 0) (new : Standing Entry) → new ≡ record taken { seen = list_of after; holds = false } → Call lent after → IsStep old Call new
-    is-step Call new given call =
+    pub is-step : {Call : History → History → Type 0} {new : Standing Entry} → new ≡ record taken { seen = list_of after; holds = false } → Call lent after → IsStep old Call new
+    is-step {Call} {new} given call =
         step-made Call old new found after is.free is.begins is.own
         (given ∙ ap (λ (pass : Standing Entry). record pass { seen = list_of after; holds = false }) is.pass)
         (subst (λ (h : History). Adds old.number h after) is.value adds) (subst (λ (h : History). Call h after) is.value call)

@@ -1,5 +1,5 @@
 -- What a pass sees while others go on, and after calls that add no mark of its own.
-use Rattle.std.proofs.Common.{◌≡◌, ℕ, ◌<◌, ◌≤◌, Bool, true, false, List, [], ◌∷◌, ◌++◌, length, take, None, Ok, Err, inl, inr, ⊎_elim, refl, sym, ap, subst, ◌∙◌, append-nil, append_assoc, eq-eqb}
+use Rattle.std.proofs.Common.{◌≡◌, ℕ, ◌<◌, ◌≤◌, Bool, true, false, List, [], ◌∷◌, ◌++◌, length, take, Option, None, Some, Ok, Err, inl, inr, ⊎_elim, refl, sym, ap, subst, ◌∙◌, append-nil, append_assoc, eq-eqb}
 use Rattle.std.specs.Prelude.{IfErr, Result, map}
 use Rattle.std.specs.List.{slice_get}
 use Rattle.std.proofs.lemmas.List.{map-append}
@@ -10,10 +10,11 @@ use Rattle.act_num.specs.declared.NoMemory.{NoMemory}
 use Rattle.act_portfolio.specs.Reading.{Accepted}
 use Rattle.act_turn.specs.Journal.{entries_of, is_by}
 use Rattle.act_turn.specs.Standing.{IsFree, Standing}
-use Rattle.act_board.specs.Calls.{Claims, IsOf, after_give_up}
-use Rattle.act_board.specs.Entries.{author_of, caller_of, list_of}
-use Rattle.act_history.specs.History.{History, IsPresent, and_then, is_claimed, is_give_up, is_given_up, is_leave_by, open_asks}
-use Rattle.act_history.specs.Legal.{HasQuota, IsFull, most_asks, most_open}
+use Rattle.act_board.specs.Calls.{IsOf, after_give_up}
+use Rattle.act_board.specs.Entries.{author_of, list_of}
+use Rattle.act_history.specs.History.{History, IsPresent, is_give_up, is_given_up, is_leave_by, open_asks}
+use Rattle.act_history.specs.Legal.{HasQuota, IsFull}
+use Rattle.act_model.specs.Limits.{most_asks, most_open}
 use Rattle.act_keeping.specs.Work.{Work, version}
 use Rattle.act_board.specs.declared.history.Entry.{Entry}
 use Rattle.act_board.specs.declared.history.Entry.TheVariants as entry
@@ -31,9 +32,10 @@ use Rattle.act_model.specs.declared.asks.Asking.{Asking}
 use Rattle.act_model.specs.declared.journal.Asked.{Asked}
 use Rattle.act_model.specs.declared.observed.Obs.{Obs}
 use Rattle.act_desk.specs.Calls.{Appends, Asks, ClaimsOrNot, CollectsOrNot, Finishes, GivesUp, Leaves}
-use Rattle.act_desk.specs.Making.{HasGivenUp, HasWatched, IsOver}
-use Rattle.act_desk.specs.Step.{HasSeen, IsStep, added}
-use Rattle.act_desk.proofs.Goes.{GoesOnBeside, NoneBy, beside, going-on}
+use Rattle.act_desk.specs.Making.{HasGivenUp, HasWatched}
+use Rattle.act_desk.specs.Step.{HasSeen, IsStep, added, and_maybe}
+use Rattle.act_desk.proofs.Adds.{AddsNobodys, IsNobodys, adds-claim, adds-finish, adds-give_up, adds-none}
+use Rattle.act_desk.proofs.Goes.{GoesOnBeside, beside, going-on}
 use Rattle.act_desk.proofs.Own.{stepped}
 use Rattle.act_desk.proofs.Stays.{appends-stay, asks-stay, given_up-stays, names-stay, open-stays, present-stays, quotas-stay}
 
@@ -67,41 +69,13 @@ beside-trans k one two three first second =
     beside k one three (prefix-trans (list_of one) (list_of two) (list_of three) (beside-begins k one two first) (beside-begins k two three second))
     (beside-own k two three second ∙ beside-own k one two first)
 
--- ---- calls that add no mark of the caller's own
-
-none-by : (k : ℕ) (m : Mark) → caller_of m ≡ None → NoneBy k (m ∷ [])
-none-by k m nobody = rw nobody refl
-
-module _ (k : ℕ) (found after : History) where
-  pub beside-same : after ≡ found → GoesOnBeside k found after
-  beside-same same = record { marks = []; found_is = same; others = refl }
-
-  beside-nobody : (m : Mark) → caller_of m ≡ None → after ≡ and_then found m → GoesOnBeside k found after
-  beside-nobody m nobody is = record { marks = m ∷ []; found_is = is; others = none-by k m nobody }
-
-  claims : (answer : Claim) → Claims found answer after → GoesOnBeside k found after
-  claims (claim.Task work) is = beside-nobody (mark.Claim work.contract (version work)) refl is.3
-  claims claim.Idle is = beside-same is.3
-  claims claim.Ended is = beside-same is.2
-  claims claim.GivenUp is = beside-same is.1
-
-  pub beside-claim : (answer : Result Claim NoMemory) → ClaimsOrNot answer found after → GoesOnBeside k found after
-  beside-claim (Ok answer) is = claims answer is.claimed
-  beside-claim (Err fault) is = beside-same is.unchanged
-
-  pub beside-finish : (work : Work) → Finishes work found after → GoesOnBeside k found after
-  beside-finish work is = by (is_claimed found work.contract (version work)) refl
-    where
-      by : (claimed : Bool) → is_claimed found work.contract (version work) ≡ claimed → GoesOnBeside k found after
-      by true claimed = beside-nobody (mark.Finish work.contract (version work)) refl (is ∙ rw claimed refl)
-      by false claimed = beside-same (is ∙ rw claimed refl)
-
-  pub beside-give_up : GivesUp found after → GoesOnBeside k found after
-  beside-give_up is = by (is_given_up found) refl
-    where
-      by : (gave_up : Bool) → is_given_up found ≡ gave_up → GoesOnBeside k found after
-      by true gave_up = beside-same (is ∙ rw gave_up refl)
-      by false gave_up = beside-nobody mark.GiveUp refl (is ∙ rw gave_up refl)
+-- a mark of nobody isn't the caller's own
+beside-nobodys : (k : ℕ) (found after : History) → AddsNobodys found after → GoesOnBeside k found after
+beside-nobodys k found after is = by is.mark is.after_is is.nobodys
+  where
+    by : (mark : Option Mark) → after ≡ and_maybe found mark → IsNobodys mark → GoesOnBeside k found after
+    by None same nobodys = record { marks = []; found_is = same; others = refl }
+    by (Some m) same nobodys = record { marks = m ∷ []; found_is = same; others = rw nobodys refl }
 
 -- what stays true of a caller's room
 quota-stays : (k : ℕ) (history found : History) → GoesOnBeside k history found → HasQuota history k → HasQuota found k
@@ -150,49 +124,38 @@ module _ (old new : Standing Entry) where
     }
 
     -- a call that adds no mark of the pass's own
-    pub watched-step : (Call : History → History → Type 0) → IsStep old Call new → ((found after : History) → Call found after → GoesOnBeside k found after) → HasWatched old new
+    pub watched-step : (Call : History → History → Type 0) → IsStep old Call new → ((found after : History) → Call found after → AddsNobodys found after) → HasWatched old new
     watched-step Call is spares =
         let next = stepped k history Call old new number seen is in
         beside-watched next.after (ap (λ (p : Standing Entry). p.turn) is.pass) (ap (λ (p : Standing Entry). p.number) is.pass) (ap (λ (p : Standing Entry). p.holds) is.pass) next.seen
-        (beside-trans k history next.found next.after next.others (spares next.found next.after next.call))
+        (beside-trans k history next.found next.after next.others (beside-nobodys k next.found next.after (spares next.found next.after next.call)))
 
 -- ---- calls of the board
 
 module _ (k : ℕ) (old new : Standing Entry) (number : old.number ≡ k) (history : History) (seen : old.seen ≡ list_of history) where
   pub watched-append : (entry : Obs) (fault : AppendFault) → IsStep old (Appends k entry (Err fault)) new → HasWatched old new
-  watched-append entry fault is = watched-step old new k number history seen (Appends k entry (Err fault)) is (λ found after call. beside-same k found after call.unchanged)
+  watched-append entry fault is = watched-step old new k number history seen (Appends k entry (Err fault)) is (λ found after call. adds-none found after call.unchanged)
 
   pub watched-ask : (asked : Asked) (fault : AskFault) → IsStep old (Asks k asked (Err fault)) new → HasWatched old new
-  watched-ask asked fault is = watched-step old new k number history seen (Asks k asked (Err fault)) is (λ found after call. beside-same k found after call.unchanged)
+  watched-ask asked fault is = watched-step old new k number history seen (Asks k asked (Err fault)) is (λ found after call. adds-none found after call.unchanged)
 
   pub watched-claim : (answer : Result Claim NoMemory) → IsStep old (ClaimsOrNot answer) new → HasWatched old new
-  watched-claim answer is = watched-step old new k number history seen (ClaimsOrNot answer) is (λ found after call. beside-claim k found after answer call)
+  watched-claim answer is = watched-step old new k number history seen (ClaimsOrNot answer) is (λ found after call. adds-claim found after answer call)
 
   pub watched-finish : (work : Work) → IsStep old (Finishes work) new → HasWatched old new
-  watched-finish work is = watched-step old new k number history seen (Finishes work) is (λ found after call. beside-finish k found after work call)
+  watched-finish work is = watched-step old new k number history seen (Finishes work) is (λ found after call. adds-finish found after work call)
 
   pub watched-give_up : IsStep old GivesUp new → HasWatched old new
-  watched-give_up is = watched-step old new k number history seen GivesUp is (λ found after call. beside-give_up k found after call)
+  watched-give_up is = watched-step old new k number history seen GivesUp is (λ found after call. adds-give_up found after call)
 
   pub watched-no_memory : (fault : NoMemory) → IsStep old (CollectsOrNot k (Err fault)) new → HasWatched old new
-  watched-no_memory fault is = watched-step old new k number history seen (CollectsOrNot k (Err fault)) is (λ found after call. beside-same k found after call.unchanged)
+  watched-no_memory fault is = watched-step old new k number history seen (CollectsOrNot k (Err fault)) is (λ found after call. adds-none found after call.unchanged)
 
   pub watched-not_yet : IsStep old (CollectsOrNot k (Ok collected.NotYet)) new → HasWatched old new
-  watched-not_yet is = watched-step old new k number history seen (CollectsOrNot k (Ok collected.NotYet)) is (λ found after call. beside-same k found after call.collected.4)
+  watched-not_yet is = watched-step old new k number history seen (CollectsOrNot k (Ok collected.NotYet)) is (λ found after call. adds-none found after call.collected.4)
 
   pub watched-given_up : IsStep old (CollectsOrNot k (Ok collected.GivenUp)) new → HasWatched old new
-  watched-given_up is = watched-step old new k number history seen (CollectsOrNot k (Ok collected.GivenUp)) is (λ found after call. beside-same k found after call.collected.1)
-
-  -- a caller that has quota isn't told that it is spent, nor one that has room that its asks are full
-  pub never-spent : (entry : Obs) → IsStep old (Appends k entry (Err appending.QuotaSpent)) new → HasQuota history k → ⊥
-  never-spent entry is quota =
-      let next = stepped k history (Appends k entry (Err appending.QuotaSpent)) old new number seen is in
-      (next.call.spent.0 refl).1 (quota-stays k history next.found next.others quota)
-
-  pub never-full : (asked : Asked) → IsStep old (Asks k asked (Err asking.AsksFull)) new → ¬ (IsFull history k) → ⊥
-  never-full asked is room =
-      let next = stepped k history (Asks k asked (Err asking.AsksFull)) old new number seen is in
-      room (full-came k history next.found next.others (next.call.full.0 refl).1)
+  watched-given_up is = watched-step old new k number history seen (CollectsOrNot k (Ok collected.GivenUp)) is (λ found after call. adds-none found after call.collected.1)
 
   -- what is claimed is of the history that the pass has then seen
   pub claimed-seen : (work : Work) → IsStep old (ClaimsOrNot (Ok (claim.Task work))) new → HasSeen new (λ h. IsOf h work)
@@ -209,13 +172,6 @@ module _ (k : ℕ) (old new : Standing Entry) (number : old.number ≡ k) (histo
               entries = claimed.1.entries ∙ sym (ap (take (version work)) (entries-same next.found (mark.Claim work.contract (version work)) refl));
             });
       }
-
-  -- and where nothing will come that history is over
-  pub over-seen : IsStep old (ClaimsOrNot (Ok claim.Ended)) new → HasSeen new IsOver
-  over-seen is =
-      let next = stepped k history (ClaimsOrNot (Ok claim.Ended)) old new number seen is in
-      let claimed = next.call.claimed in
-      record { history = next.after; seen = next.seen; holds = subst IsOver (sym claimed.2) (record { going = claimed.0; ended = claimed.1 }) }
 
   -- somebody has given up then
   pub given_up-seen : IsStep old GivesUp new → HasSeen new (λ h. is_given_up h ≡ true)
@@ -241,17 +197,26 @@ module _ (k : ℕ) (old new : Standing Entry) (number : old.number ≡ k) (histo
         });
       }
 
+-- a caller that has quota isn't told that it is spent, nor one that has room that its asks are full
+module _ {k : ℕ} {old new : Standing Entry} (number : old.number ≡ k) where
+  pub never-spent : {entry : Obs} {fault : AppendFault} → HasSeen old (λ h. HasQuota h k) → IsStep old (Appends k entry (Err fault)) new → fault ≡ appending.QuotaSpent → ⊥
+  never-spent {entry} {fault} had is spent =
+      let next = stepped k had.history (Appends k entry (Err fault)) old new number had.seen is in
+      (next.call.spent.0 (ap Err spent)).1 (quota-stays k had.history next.found next.others had.holds)
+
+  pub never-full : {asked : Asked} {fault : AskFault} → HasSeen old (λ h. ¬ (IsFull h k)) → IsStep old (Asks k asked (Err fault)) new → fault ≡ asking.AsksFull → ⊥
+  never-full {asked} {fault} had is full =
+      let next = stepped k had.history (Asks k asked (Err fault)) old new number had.seen is in
+      had.holds (full-came k had.history next.found next.others (next.call.full.0 (ap Err full)).1)
+
 -- what a pass has seen goes on by a step
 pub step-begins : (Call : History → History → Type 0) (old new : Standing Entry) → IsStep old Call new → IsPrefix old.seen new.seen
 step-begins Call old new is =
     prefix-trans old.seen (list_of is.found) new.seen is.begins
     (subst (IsPrefix (list_of is.found)) (sym (ap (λ (p : Standing Entry). p.seen) is.pass)) (added is.mark, refl))
 
-pub watched-refl : (pass : Standing Entry) (history : History) → pass.seen ≡ list_of history → HasWatched pass pass
-watched-refl pass history seen = record { turn = refl; number = refl; holds = refl; begins = ([], append-nil pass.seen); own = refl; history = history; seen = seen }
-
-pub watched-trans : (one two three : Standing Entry) → HasWatched one two → HasWatched two three → HasWatched one three
-watched-trans one two three first second = record {
+pub watched-trans : {one two three : Standing Entry} → HasWatched one two → HasWatched two three → HasWatched one three
+watched-trans {one} {two} {three} first second = record {
   turn = second.turn ∙ first.turn;
   number = second.number ∙ first.number;
   holds = second.holds ∙ first.holds;
@@ -262,15 +227,15 @@ watched-trans one two three first second = record {
 }
 
 -- what stays true of what was seen
-module _ (old new : Standing Entry) (is : HasWatched old new) where
-  pub watched-portfolio : (of : Accepted) → HasSeen old (λ h. h.portfolio ≡ of) → HasSeen new (λ h. h.portfolio ≡ of)
-  watched-portfolio of had = record {
+module _ {old new : Standing Entry} (is : HasWatched old new) where
+  pub watched-portfolio : {of : Accepted} → HasSeen old (λ h. h.portfolio ≡ of) → HasSeen new (λ h. h.portfolio ≡ of)
+  watched-portfolio had = record {
     history = is.history;
     seen = is.seen;
     holds = names-stay old.number had.history is.history (watched-beside old new old.number refl had.history had.seen is) ∙ had.holds;
   }
 
-  module _ (k : ℕ) (number : old.number ≡ k) where
+  module _ {k : ℕ} (number : old.number ≡ k) where
     pub watched-present : HasSeen old (λ h. IsPresent h k) → HasSeen new (λ h. IsPresent h k)
     watched-present had = record {
       history = is.history;

@@ -11,17 +11,19 @@ use Rattle.act_model.specs.declared.journal.Line.{Line}
 use Rattle.act_model.specs.declared.journal.Step.{Step}
 use Rattle.act_model.specs.declared.journal.Step.TheVariants.{Append, Ask}
 use Rattle.act_profile.specs.Answers.{answer_to}
-use Rattle.act_turn.specs.Standing.{Standing, own_entries}
+use Rattle.act_turn.specs.Standing.{IsFree, Standing, own_entries}
 use Rattle.act_board.specs.Entries.{author_of, list_of}
 use Rattle.act_history.specs.History.{History, IsPresent, appended_by, asks_by, collected_by, entries_of, has_left, is_collect_by, is_given_up, is_leave_by, item_of, version_of}
-use Rattle.act_history.specs.Legal.{HasEnded, most_asks}
+use Rattle.act_history.specs.Legal.{HasEnded}
+use Rattle.act_model.specs.Limits.{most_asks}
 use Rattle.act_board.specs.declared.history.Entry.{Entry}
 use Rattle.act_board.specs.declared.history.Entry.TheVariants as entry
 use Rattle.act_history.specs.declared.mark.Mark.{Mark}
 use Rattle.act_history.specs.declared.mark.Mark.TheVariants as mark
 use Rattle.act_board.specs.declared.outcome.Collected.TheVariants.{Ready}
 use Rattle.act_desk.specs.Calls.{CollectsOrNot}
-use Rattle.act_desk.specs.Step.{IsStep}
+use Rattle.act_desk.specs.Desk.{Desk}
+use Rattle.act_desk.specs.Step.{HasSeen, IsStep}
 
 -- ---- lines
 
@@ -67,6 +69,12 @@ pub record HasGivenUp (history : History) (i : ℕ) : Type 0 where
   pub left : has_left history i ≡ true
 
 -- ---- passes
+
+-- what a caller's pass is asked for: it is free at the desk, it is the caller's, and what it has seen is of the desk's portfolio
+pub record IsAt (desk : Desk) (i : ℕ) (pass : Standing Entry) : Type 0 where
+  pub free : IsFree desk.id pass
+  pub own : pass.number ≡ i
+  pub portfolio : HasSeen pass (λ history. history.portfolio ≡ desk.portfolio)
 
 -- a pass has seen what others did, and has added no entry of its own: what it has claimed, handed in or given up is nobody's
 pub record HasWatched (old new : Standing Entry) : Type 0 where

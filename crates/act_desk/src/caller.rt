@@ -9,63 +9,32 @@ ghost use Rattle.act_history.specs.History.{IsPresent, open_asks};
 ghost use Rattle.act_history.specs.Legal.{HasQuota, IsFull};
 ghost use Rattle.act_board.specs.declared.outcome.Collected.TheVariants.{Ready};
 ghost use Rattle.act_desk.specs.Calls.{Appends, Asks, CollectsOrNot};
-ghost use Rattle.act_desk.specs.Making.{HasCalled, HasCollected, HasGivenUp, HasMade, HasStopped, HasWatched, IsMaking, MayHaveCollected, MayMake, asks};
+ghost use Rattle.act_desk.specs.Making.{HasCalled, HasCollected, HasGivenUp, HasMade, HasStopped, HasWatched, IsAt, IsMaking, MayHaveCollected, MayMake, asks};
 ghost use Rattle.act_desk.specs.Step.{HasSeen, IsStep};
 
+use crate::context::Context;
 use crate::desk::{Desk, DeskPass};
 use crate::from_answer::FromAnswer;
 use crate::working::Work;
 use act_board::{AppendFault, AskFault, Collected};
 use act_io::Gate;
-use act_model::{Answer, Asked, Line, Obs, Step};
+use act_model::{Answer, Asked, Line, MOST_OPEN, Obs, Step};
 use act_num::NoMemory;
-use std::alloc::Global;
 use std::sync::Wait;
-
-/// The most asks of a caller that are open at a time.
-const MOST_OPEN: usize = 256;
 
 impl Desk {
     /// A caller makes the steps of its lines in their order, and leaves. Before an ask it collects its oldest answer where 256 asks
     /// are open, and at the end it collects the others; an answer that isn't ready it waits for, and makes evaluations meanwhile. It
-    /// answers the answers to the asks, in their order. Where memory runs out it gives up, and where somebody else has given up it
-    /// answers want of memory too; it has left then.
-    pub fn caller<R: Wait, G: Gate>(
-        &self,
-        rt: &R,
-        alloc: Global,
-        pass: &mut DeskPass,
-        caller: u32,
-        lines: &[Line],
-        gate: &G,
-    ) -> Result<Vec<Answer>, NoMemory>
-        requires free { IsFree self.now.id pass.old }
-        requires own { pass.old.number ≡ caller }
-        requires portfolio { HasSeen pass.old (λ history. history.portfolio ≡ self.now.portfolio) }
-        requires lines { HasSeen pass.old (λ history. MayMake history caller lines.now) }
-        ensures free { IsFree self.now.id pass.new }
-        ensures number { pass.new.number ≡ caller }
-        ensures begins { IsPrefix pass.old.seen pass.new.seen }
-        ensures made { IfOk result (λ answers. HasMade (λ answer. answer) pass.old caller lines.now answers.items pass.new) }
-        ensures given_up { IfErr result (λ _. HasSeen pass.new (λ history. HasGivenUp history caller)) }
-        ensures stopped { IfErr result (λ _. HasStopped pass.old caller lines.now pass.new) }
-    {
-        self.caller_keeping(rt, alloc, pass, caller, lines, gate)
-    }
-
-    /// The same, but that of each answer it answers what is kept of it, `A`, and the answer goes once that is made.
+    /// answers what is kept, `A`, of the answers to the asks, in their order; an answer goes once that is made. Where memory runs out
+    /// it gives up, and where somebody else has given up it answers want of memory too; it has left then.
     pub fn caller_keeping<R: Wait, G: Gate, A: FromAnswer>(
         &self,
-        rt: &R,
-        alloc: Global,
+        context: &Context<'_, R, G>,
         pass: &mut DeskPass,
         caller: u32,
         lines: &[Line],
-        gate: &G,
     ) -> Result<Vec<A>, NoMemory>
-        requires free { IsFree self.now.id pass.old }
-        requires own { pass.old.number ≡ caller }
-        requires portfolio { HasSeen pass.old (λ history. history.portfolio ≡ self.now.portfolio) }
+        requires at { IsAt self.now caller pass.old }
         requires lines { HasSeen pass.old (λ history. MayMake history caller lines.now) }
         ensures free { IsFree self.now.id pass.new }
         ensures number { pass.new.number ≡ caller }
@@ -74,80 +43,52 @@ impl Desk {
         ensures given_up { IfErr result (λ _. HasSeen pass.new (λ history. HasGivenUp history caller)) }
         ensures stopped { IfErr result (λ _. HasStopped pass.old caller lines.now pass.new) }
     {
-        let mut answers = Vec::new(alloc);
-        match self.make(rt, alloc, pass, caller, lines, gate, &mut answers) {
+        let mut answers = Vec::new(context.alloc);
+        match self.make(context, pass, caller, lines, &mut answers) {
             Ok(()) => {
-                self.leave(rt, pass, caller);
+                self.leave(context.rt, pass, caller);
                 Ok(answers)
             }
             Err(NoMemory) => {
                 drop(answers);
-                self.give_up(rt, pass, None);
-                self.leave(rt, pass, caller);
+                self.give_up(context.rt, pass, None);
+                self.leave(context.rt, pass, caller);
                 Err(NoMemory)
             }
         }
     }
 
-    /// Makes the steps of lines, and collects all answers.
+    /// Makes the steps of lines, and collects all answers: first only where the next ask needs room, and then the others.
     fn make<R: Wait, G: Gate, A: FromAnswer>(
         &self,
-        rt: &R,
-        alloc: Global,
+        context: &Context<'_, R, G>,
         pass: &mut DeskPass,
         caller: u32,
         lines: &[Line],
-        gate: &G,
         answers: &mut Vec<A>,
     ) -> Result<(), NoMemory>
-        requires free { IsFree self.now.id pass.old }
-        requires own { pass.old.number ≡ caller }
-        requires portfolio { HasSeen pass.old (λ history. history.portfolio ≡ self.now.portfolio) }
+        requires at { IsAt self.now caller pass.old }
         requires lines { HasSeen pass.old (λ history. MayMake history caller lines.now) }
         requires none { answers.old.items ≡ [] }
         ensures made { IfOk result (λ _. IsMaking A.kept_of pass.old caller lines.now answers.new.items pass.new) }
         ensures all { IfOk result (λ _. length answers.new.items ≡ count_by asks lines.now) }
         ensures some { IfErr result (λ _. (done : ℕ) × IsMaking A.kept_of pass.old caller (take done lines.now) answers.new.items pass.new) }
     {
-        let asked = self.make_lines(rt, alloc, pass, caller, lines, gate, answers)?;
-        'rest: while answers.len() < asked {
-            self.collect_next(rt, alloc, pass, caller, gate, answers)?;
-        }
-        Ok(())
-    }
-
-    /// Makes the steps of lines, and collects answers only where the next ask needs room. It answers how many asks were made.
-    fn make_lines<R: Wait, G: Gate, A: FromAnswer>(
-        &self,
-        rt: &R,
-        alloc: Global,
-        pass: &mut DeskPass,
-        caller: u32,
-        lines: &[Line],
-        gate: &G,
-        answers: &mut Vec<A>,
-    ) -> Result<usize, NoMemory>
-        requires free { IsFree self.now.id pass.old }
-        requires own { pass.old.number ≡ caller }
-        requires portfolio { HasSeen pass.old (λ history. history.portfolio ≡ self.now.portfolio) }
-        requires lines { HasSeen pass.old (λ history. MayMake history caller lines.now) }
-        requires none { answers.old.items ≡ [] }
-        ensures made { IfOk result (λ _. IsMaking A.kept_of pass.old caller lines.now answers.new.items pass.new) }
-        ensures asked { IfOk result (λ asked. asked ≡ count_by asks lines.now) }
-        ensures some { IfErr result (λ _. (done : ℕ) × IsMaking A.kept_of pass.old caller (take done lines.now) answers.new.items pass.new) }
-    {
         let mut asked = 0;
         for line in lines {
             match line.step {
-                Step::Append(entry) => self.make_append(rt, pass, caller, entry)?,
+                Step::Append(entry) => self.make_append(context.rt, pass, caller, entry)?,
                 Step::Ask(ask) => {
-                    self.make_room(rt, alloc, pass, caller, gate, asked, answers)?;
-                    self.make_ask(rt, pass, caller, ask)?;
+                    self.make_room(context, pass, caller, asked, answers)?;
+                    self.make_ask(context.rt, pass, caller, ask)?;
                     asked += 1;
                 }
             }
         }
-        Ok(asked)
+        'rest: while answers.len() < asked {
+            self.collect_next(context, pass, caller, answers)?;
+        }
+        Ok(())
     }
 
     /// Appends an entry, for which the caller has quota.
@@ -158,8 +99,7 @@ impl Desk {
         caller: u32,
         entry: Obs,
     ) -> Result<(), NoMemory>
-        requires free { IsFree self.now.id pass.old }
-        requires own { pass.old.number ≡ caller }
+        requires at { IsAt self.now caller pass.old }
         requires present { HasSeen pass.old (λ history. IsPresent history caller) }
         requires quota { HasSeen pass.old (λ history. HasQuota history caller) }
         requires entry { is_entry entry ≡ true }
@@ -168,8 +108,7 @@ impl Desk {
     {
         match self.append(rt, pass, caller, entry) {
             Ok(_) => Ok(()),
-            Err(AppendFault::NoMemory) => Err(NoMemory),
-            Err(AppendFault::GivenUp) => Err(NoMemory),
+            Err(AppendFault::NoMemory | AppendFault::GivenUp) => Err(NoMemory),
             Err(AppendFault::QuotaSpent) => unreachable!(),
         }
     }
@@ -182,8 +121,7 @@ impl Desk {
         caller: u32,
         asked: Asked,
     ) -> Result<(), NoMemory>
-        requires free { IsFree self.now.id pass.old }
-        requires own { pass.old.number ≡ caller }
+        requires at { IsAt self.now caller pass.old }
         requires present { HasSeen pass.old (λ history. IsPresent history caller) }
         requires room { HasSeen pass.old (λ history. ¬ (IsFull history caller)) }
         requires known { HasSeen pass.old (λ history. is_known history.portfolio.names (Ask asked) ≡ true) }
@@ -192,8 +130,7 @@ impl Desk {
     {
         match self.ask(rt, pass, caller, asked) {
             Ok(_) => Ok(()),
-            Err(AskFault::NoMemory) => Err(NoMemory),
-            Err(AskFault::GivenUp) => Err(NoMemory),
+            Err(AskFault::NoMemory | AskFault::GivenUp) => Err(NoMemory),
             Err(AskFault::AsksFull) => unreachable!(),
         }
     }
@@ -201,17 +138,13 @@ impl Desk {
     /// Collects an answer where as many of the asks that were made are open as may be.
     fn make_room<R: Wait, G: Gate, A: FromAnswer>(
         &self,
-        rt: &R,
-        alloc: Global,
+        context: &Context<'_, R, G>,
         pass: &mut DeskPass,
         caller: u32,
-        gate: &G,
         asked: usize,
         answers: &mut Vec<A>,
     ) -> Result<(), NoMemory>
-        requires free { IsFree self.now.id pass.old }
-        requires own { pass.old.number ≡ caller }
-        requires portfolio { HasSeen pass.old (λ history. history.portfolio ≡ self.now.portfolio) }
+        requires at { IsAt self.now caller pass.old }
         requires present { HasSeen pass.old (λ history. IsPresent history caller) }
         requires open { HasSeen pass.old (λ history. length (open_asks history caller) + length answers.old.items ≡ asked) }
         requires few { asked ≤ length answers.old.items + MOST_OPEN }
@@ -221,7 +154,7 @@ impl Desk {
         ensures kept { IfErr result (λ _. answers.new.items ≡ answers.old.items) }
     {
         if asked - answers.len() == MOST_OPEN {
-            return self.collect_next(rt, alloc, pass, caller, gate, answers);
+            return self.collect_next(context, pass, caller, answers);
         }
         Ok(())
     }
@@ -229,16 +162,12 @@ impl Desk {
     /// Collects the answer to the oldest open ask, and adds what is kept of it. What that takes is reserved first.
     fn collect_next<R: Wait, G: Gate, A: FromAnswer>(
         &self,
-        rt: &R,
-        alloc: Global,
+        context: &Context<'_, R, G>,
         pass: &mut DeskPass,
         caller: u32,
-        gate: &G,
         answers: &mut Vec<A>,
     ) -> Result<(), NoMemory>
-        requires free { IsFree self.now.id pass.old }
-        requires own { pass.old.number ≡ caller }
-        requires portfolio { HasSeen pass.old (λ history. history.portfolio ≡ self.now.portfolio) }
+        requires at { IsAt self.now caller pass.old }
         requires present { HasSeen pass.old (λ history. IsPresent history caller) }
         requires open { HasSeen pass.old (λ history. 0 < length (open_asks history caller)) }
         ensures collected { IfOk result (λ _. HasCollected A.kept_of pass.old caller answers.old.items pass.new answers.new.items) }
@@ -246,7 +175,7 @@ impl Desk {
         ensures kept { IfErr result (λ _. answers.new.items ≡ answers.old.items) }
     {
         answers.reserve(1)?;
-        let answer = self.collect_oldest(rt, alloc, pass, caller, gate)?;
+        let answer = self.collect_oldest(context, pass, caller)?;
         answers.push_reserved(A::from_answer(answer));
         Ok(())
     }
@@ -255,28 +184,24 @@ impl Desk {
     /// sleeps until that may have changed.
     fn collect_oldest<R: Wait, G: Gate>(
         &self,
-        rt: &R,
-        alloc: Global,
+        context: &Context<'_, R, G>,
         pass: &mut DeskPass,
         caller: u32,
-        gate: &G,
     ) -> Result<Answer, NoMemory>
-        requires free { IsFree self.now.id pass.old }
-        requires own { pass.old.number ≡ caller }
-        requires portfolio { HasSeen pass.old (λ history. history.portfolio ≡ self.now.portfolio) }
+        requires at { IsAt self.now caller pass.old }
         requires present { HasSeen pass.old (λ history. IsPresent history caller) }
         requires open { HasSeen pass.old (λ history. 0 < length (open_asks history caller)) }
         ensures collected { IfOk result (λ answer. HasCalled pass.old (CollectsOrNot caller (Ok (Ready answer))) pass.new) }
         ensures watched { IfErr result (λ _. HasWatched pass.old pass.new) }
     {
-        for _ in rt.forever() {
+        for _ in context.rt.forever() {
             let rings = self.results.rings();
-            match self.collect(rt, pass, caller)? {
+            match self.collect(context.rt, pass, caller)? {
                 Collected::Ready(answer) => return Ok(answer),
                 Collected::GivenUp => return Err(NoMemory),
                 Collected::NotYet => {
-                    if self.work(rt, alloc, pass, gate)? == Work::None {
-                        self.results.sleep(rt, rings);
+                    if self.work(context, pass)? == Work::None {
+                        self.results.sleep(context.rt, rings);
                     }
                 }
             }

@@ -14,17 +14,14 @@ ghost use Rattle.act_desk.specs.Calls.{Appends, Asks, ClaimsOrNot, CollectsOrNot
 ghost use Rattle.act_desk.specs.Step.{HasSeen, IsStep, opening};
 
 use crate::bell::Bell;
-use act_board::{AppendFault, AskFault, Board, Claim, Collected, Done, MOST_CALLERS, Task};
-use act_model::{Asked, MOST_ENTRIES, Obs};
+use act_board::{AppendFault, AskFault, Board, Claim, Collected, Done, Task};
+use act_model::{Asked, MOST_CALLERS, MOST_ENTRIES, MOST_WORKERS, Obs};
 use act_num::NoMemory;
 use act_portfolio::Portfolio;
 use act_turn::{NewFault, Pass, Turn};
 use std::alloc::Global;
 use std::marker::Model;
 use std::sync::{Arc, Wait};
-
-/// The most workers of a desk.
-pub const MOST_WORKERS: u32 = 64;
 
 /// What a caller or a worker has of a desk. Contracts see its number, the history that it has seen, as a list, and how many turns
 /// it has had.

@@ -4,10 +4,12 @@
 
 mod bell;
 mod caller;
+mod context;
 mod desk;
 mod from_answer;
 mod worker;
 mod working;
 
-pub use desk::{Desk, DeskPass, MOST_WORKERS};
+pub use context::Context;
+pub use desk::{Desk, DeskPass};
 pub use from_answer::FromAnswer;

@@ -6,12 +6,12 @@ ghost use Rattle.act_history.specs.History.{is_given_up};
 ghost use Rattle.act_desk.specs.Making.{HasWatched, IsOver};
 ghost use Rattle.act_desk.specs.Step.{HasSeen};
 
+use crate::context::Context;
 use crate::desk::{Desk, DeskPass};
 use act_board::{Claim, Done, Task};
 use act_io::Gate;
 use act_num::{NoMemory, Steps};
 use act_portfolio::Portfolio;
-use std::alloc::Global;
 use std::marker::Brand;
 use std::sync::Wait;
 use std::sync::ledger::{Blank, Ledger};
@@ -31,19 +31,17 @@ impl Desk {
     /// Claims the evaluation that is next, makes it and hands it in. Memory runs out here, or somebody has given up.
     pub(crate) fn work<R: Wait, G: Gate>(
         &self,
-        rt: &R,
-        alloc: Global,
+        context: &Context<'_, R, G>,
         pass: &mut DeskPass,
-        gate: &G,
     ) -> Result<Work, NoMemory>
         requires free { IsFree self.now.id pass.old }
         requires portfolio { HasSeen pass.old (λ history. history.portfolio ≡ self.now.portfolio) }
         ensures watched { HasWatched pass.old pass.new }
         ensures over { IfOk result (λ work. work ≡ Work.Over → HasSeen pass.new IsOver) }
     {
-        match self.claim(rt, pass)? {
+        match self.claim(context.rt, pass)? {
             Claim::Task(task) => {
-                self.evaluate(rt, alloc, pass, task, gate)?;
+                self.evaluate(context, pass, task)?;
                 Ok(Work::Made)
             }
             Claim::Idle => Ok(Work::None),
@@ -55,11 +53,9 @@ impl Desk {
     /// Makes an evaluation and hands it in. There may be more to claim, so another worker is woken first.
     fn evaluate<R: Wait, G: Gate>(
         &self,
-        rt: &R,
-        alloc: Global,
+        context: &Context<'_, R, G>,
         pass: &mut DeskPass,
         task: Task,
-        gate: &G,
     ) -> Result<(), NoMemory>
         requires free { IsFree self.now.id pass.old }
         requires portfolio { HasSeen pass.old (λ history. history.portfolio ≡ self.now.portfolio) }
@@ -67,9 +63,9 @@ impl Desk {
         ensures watched { HasWatched pass.old pass.new }
     {
         self.tasks.wake_one();
-        match gated::<Brand, G>(alloc, task, &self.portfolio, gate, Blank::new(1)) {
+        match gated::<Brand, R, G>(context, task, &self.portfolio, Blank::new(1)) {
             Ok(done) => {
-                self.finish(rt, pass, done);
+                self.finish(context.rt, pass, done);
                 Ok(())
             }
             Err(task) => {
@@ -81,11 +77,10 @@ impl Desk {
 }
 
 /// Makes an evaluation between the two calls of a gate, with a counter of its own.
-fn gated<L: Ledger, G: Gate>(
-    alloc: Global,
+fn gated<L: Ledger, R, G: Gate>(
+    context: &Context<'_, R, G>,
     task: Task,
     portfolio: &Portfolio,
-    gate: &G,
     blank: Blank,
 ) -> Result<Done, Task>
     requires name { blank.name ≡ L.name }
@@ -97,8 +92,8 @@ fn gated<L: Ledger, G: Gate>(
     let mut steps = Steps::<L>::new(blank);
     let contract = task.contract();
     let version = task.version();
-    gate.enter(contract, version);
-    let made = task.work(alloc, portfolio, &mut steps);
-    gate.left(contract, version);
+    context.gate.enter(contract, version);
+    let made = task.work(context.alloc, portfolio, &mut steps);
+    context.gate.left(contract, version);
     made
 }

@@ -1,6 +1,7 @@
 -- What has happened on a board, and what this says of its journal, its callers, claims and results. This profile's own.
-use Rattle.std.specs.Prelude.{◌≡◌, ℕ, ◌<◌, ◌≤◌, ◌&&◌, ◌==◌, not, Bool, true, false, List, [], ◌∷◌, ◌++◌, length, take, drop, Option, Some, None}
-use Rattle.std.specs.List.{Contains, count_by, filter_map, list_any}
+use Rattle.std.specs.Prelude.{◌≡◌, ℕ, ◌<◌, ◌≤◌, ◌&&◌, ◌==◌, not, Bool, true, false, List, [], ◌∷◌, ◌++◌, length, take, drop, Option, Some, None, Vec}
+use Rattle.std.specs.List.{Contains, count_by, filter_map, flat_map, list_any}
+use Rattle.std.specs.declared.alloc.Global.{Global}
 use Rattle.act_model.specs.Asks.{caller_asks}
 use Rattle.act_model.specs.Journal.{book_of, contracts_of}
 use Rattle.act_model.specs.declared.asks.Asking.{Asking}
@@ -94,6 +95,10 @@ is_give_up other = false
 
 abbrev pub is_given_up : History → Bool
 is_given_up history = list_any is_give_up history.marks
+
+-- what all callers keep of their answers, one caller's after another's
+abbrev pub replies_of : {A : Type 0} → List (Vec A Global) → List A
+replies_of answers = flat_map (λ replies. replies.items) answers
 
 -- ---- claims and results
 

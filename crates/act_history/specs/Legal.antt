@@ -2,23 +2,12 @@
 use Rattle.std.specs.Prelude.{◌≡◌, ◌⊎◌, ℕ, suc, ◌<◌, ◌≤◌, true, false, [], length, Some}
 use Rattle.std.specs.List.{All, slice_get}
 use Rattle.act_model.specs.Journal.{contracts_of}
+use Rattle.act_model.specs.Limits.{most_asks, most_open}
 use Rattle.act_model.specs.declared.asks.Asking.{Asking}
 use Rattle.act_refs.specs.Path.{IsChild}
 use Rattle.act_history.specs.History.{History, IsPresent, IsWanted, appended_by, asks_by, before, has_left, has_result, is_claimed, is_given_up, open_asks}
 use Rattle.act_history.specs.declared.mark.Mark.{Mark}
 use Rattle.act_history.specs.declared.mark.Mark.TheVariants.{Append, Ask, Claim, Finish, Collect, Leave, GiveUp}
-
--- the most callers of a board
-abbrev pub most_callers : ℕ
-most_callers = 16
-
--- the most asks of a caller that are open at a time
-abbrev pub most_open : ℕ
-most_open = 256
-
--- the most asks of a caller
-abbrev pub most_asks : ℕ
-most_asks = 4_194_304
 
 -- a caller has appended fewer entries than its quota
 abbrev pub HasQuota : History → ℕ → Type 0

@@ -1,8 +1,9 @@
 -- The first line of a text.
-use Rattle.std.proofs.Common.{◌≡◌, ◌==◌, ℕ, ◌<◌, ◌≤◌, if◌then◌else◌, Bool, true, false, List, [], ◌∷◌, length, take, Option, Result, Ok, Err, refl, ap, ◌∙◌, arith}
+use Rattle.std.proofs.Common.{◌≡◌, ◌==◌, ℕ, ◌<◌, ◌≤◌, if◌then◌else◌, Bool, true, false, List, [], ◌∷◌, length, take, Result, Ok, Err, refl, ap, ◌∙◌, arith}
 use Rattle.std.proofs.lemmas.List.{take-take}
 use Rattle.act_io.specs.declared.sink.PutFault.{PutFault}
-use Rattle.act_io.specs.Put.{Puts, first_line, written_after}
+use Rattle.act_io.specs.declared.sink.PutFault.TheVariants.{Failed, NoMemory}
+use Rattle.act_io.specs.Page.{Page, Puts, first_line, written_on}
 
 front_of : (ends : Bool) (bytes line : List ℕ) → line ≡ take (length line) bytes → (if ends then [] else line) ≡ take (length (if ends then [] else line)) bytes
 front_of true bytes line e = refl
@@ -26,10 +27,11 @@ some [] h = h
 some (byte ∷ bytes) h = omega arith
 
 -- what takes bytes of the first line takes bytes of the text
-pub of_first_line : (text : List ℕ) (before after : Option (List ℕ)) (result : Result ℕ PutFault) → Puts (first_line text) before after result → Puts text before after result
-of_first_line text before after (Err fault) puts = puts
+pub of_first_line : (text : List ℕ) (before after : Page) (result : Result ℕ PutFault) → Puts (first_line text) before result after → Puts text before result after
+of_first_line text before after (Err Failed) puts = puts
+of_first_line text before after (Err NoMemory) puts = puts
 of_first_line text before after (Ok n) puts = (
   omega (arith, puts.0, fewer text),
   λ h. puts.1 (some text h),
-  puts.2 ∙ ap (written_after before) (ap (take n) (front text) ∙ take-take n (length (first_line text)) text puts.0),
+  puts.2 ∙ ap (written_on before) (ap (take n) (front text) ∙ take-take n (length (first_line text)) text puts.0),
 )

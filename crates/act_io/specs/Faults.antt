@@ -1,5 +1,5 @@
 -- Counts of faults. They never fall, and stop at the last value of a counter.
-use Rattle.std.specs.Prelude.{◌≡◌, ℕ, ◌+◌, ◌<◌, ◌⊎◌, ◌==◌, if◌then◌else◌}
+use Rattle.std.specs.Prelude.{ℕ, ◌+◌, ◌==◌, if◌then◌else◌}
 
 -- the last value of a counter: 2^64 - 1
 abbrev pub last_count : ℕ
@@ -8,7 +8,3 @@ last_count = 18446744073709551615
 -- a counter goes up by one, as far as its last value
 abbrev pub next_count : ℕ → ℕ
 next_count n = if n == last_count then n else n + 1
-
--- the count is greater than before, or stands at its last value
-abbrev pub Rose : ℕ → ℕ → Type 0
-Rose before now = (before < now) ⊎ (now ≡ last_count)

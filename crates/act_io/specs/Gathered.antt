@@ -1,6 +1,8 @@
 -- What the standard output gathers before it is written.
 use Rattle.std.specs.Prelude.{◌≡◌, ◌⊎◌, ℕ, List, [], ◌++◌, take, Result, Ok, Err}
+use Rattle.act_io.specs.Faults.{next_count}
 use Rattle.act_io.specs.declared.sink.PutFault.{PutFault}
+use Rattle.act_io.specs.declared.sink.PutFault.TheVariants.{Failed, NoMemory}
 
 -- bytes that are taken and not yet written, and the faults so far
 pub record Gathering : Type 0 where
@@ -12,3 +14,9 @@ pub record Gathering : Type 0 where
 abbrev pub Gathers : List ℕ → List ℕ → List ℕ → Result ℕ PutFault → Type 0
 Gathers piece before after (Ok n) = (after ≡ before ++ take n piece) ⊎ (after ≡ take n piece) ⊎ (after ≡ [])
 Gathers piece before after (Err fault) = after ≡ []
+
+-- the count of faults, one higher where writing failed
+abbrev pub finish_faults : {A : Type 0} → Result A PutFault → ℕ → ℕ
+finish_faults (Err Failed) before = next_count before
+finish_faults (Err NoMemory) before = before
+finish_faults (Ok answer) before = before

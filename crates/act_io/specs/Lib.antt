@@ -1,5 +1,5 @@
 pub mod Faults
-pub mod Fetch
 pub mod Gathered
 pub mod Memory
-pub mod Put
+pub mod Page
+pub mod World

@@ -7,7 +7,8 @@ use Rattle.act_io.specs.declared.files.FetchFault.TheVariants.{Failed, TooLong, 
 use Rattle.act_io.specs.declared.sink.PutFault.{PutFault}
 use Rattle.act_io.specs.declared.sink.PutFault.TheVariants.{Failed as PutFailed, NoMemory as PutNoMemory}
 use Rattle.act_io.specs.Faults.{next_count}
-use Rattle.act_io.specs.Fetch.{fetch_faults}
+use Rattle.act_io.specs.Page.{Page}
+use Rattle.act_io.specs.World.{World}
 
 -- a list of names with bytes, the numbers of the calls that are to fail, the calls and faults so far, and the names asked for
 pub record FilesInMemory : Type 0 where
@@ -29,6 +30,14 @@ pub record SinkInMemory : Type 0 where
 abbrev pub content_of : List (List ℕ × List ℕ) → List ℕ → Option (List ℕ)
 content_of files name = option_map (λ file. file.1) (find (λ file. bytes_eq file.0 name) files)
 
+-- what contracts see of the files, which tell all
+abbrev pub world_of : FilesInMemory → World
+world_of files = record { content = content_of files.files; asked = Some files.asked; faults = files.faults }
+
+-- what they see of the sink, which tells all
+abbrev pub page_of : SinkInMemory → Page
+page_of sink = record { written = Some sink.written; faults = sink.faults }
+
 -- the next call is to fail
 abbrev pub is_to_fail : List ℕ → ℕ → Bool
 is_to_fail fails calls = list_any (λ n. n == next_count calls) fails
@@ -49,6 +58,13 @@ Answers (Err NoMemory) wanted = Unit {0}
 Answers (Err Failed) wanted = wanted ≡ Err Failed
 Answers (Err TooLong) wanted = wanted ≡ Err TooLong
 Answers (Ok read) wanted = wanted ≡ Ok read.items
+
+-- the count of faults, one higher where reading failed
+abbrev pub fetch_faults : Result (Vec ℕ Global) FetchFault → ℕ → ℕ
+fetch_faults (Err Failed) before = next_count before
+fetch_faults (Err TooLong) before = before
+fetch_faults (Err NoMemory) before = before
+fetch_faults (Ok read) before = before
 
 -- the files with one more call, one more name asked for, and one more fault where the answer is Failed; as they were where memory ran out
 abbrev pub files_after : Result (Vec ℕ Global) FetchFault → FilesInMemory → List ℕ → FilesInMemory

@@ -1,6 +1,5 @@
 //! Files that are read whole.
-ghost use Rattle.std.specs.Prelude.{◌≡◌, ℕ, ◌≤◌, List, Option, IfSome, IfOk, vec_len};
-ghost use Rattle.act_io.specs.Fetch.{Fetches, fetch_faults, names_after};
+ghost use Rattle.act_io.specs.World.{Fetches, World};
 
 use std::alloc::Global;
 
@@ -17,21 +16,12 @@ pub enum FetchFault {
 
 /// Files by name.
 pub trait Files {
-    /// The bytes under a name, where the files tell them.
-    ghost content: { Self → List ℕ → Option (List ℕ) };
-
-    /// The names that were asked for, in order, where the files tell them.
-    ghost asked: { Self → Option (List (List ℕ)) };
-
-    /// How often reading has failed, as far as a counter goes: once more exactly where `Failed` is answered.
-    ghost faults: { Self → ℕ };
+    /// The bytes under a name and the names that were asked for, in order, where the files tell them; and how often reading has
+    /// failed, as far as a counter goes: once more exactly where `Failed` is answered.
+    ghost world: { Self → World };
 
     /// The bytes of the file of that name, of which there may be as many as the limit. No file changes. The
     /// name joins those asked for, unless memory ran out.
     fn fetch(&mut self, alloc: Global, name: &str, limit: u64) -> Result<Vec<u8>, FetchFault>
-        ensures bytes { IfSome (content self.old name.now) (λ bytes. Fetches bytes limit result) }
-        ensures within { IfOk result (λ bytes. vec_len bytes ≤ limit) }
-        ensures faults { faults self.new ≡ fetch_faults result (faults self.old) }
-        ensures asked { asked self.new ≡ names_after result (asked self.old) name.now }
-        ensures same { (other : List ℕ) → content self.new other ≡ content self.old other };
+        ensures { Fetches name.now limit (world self.old) result (world self.new) };
 }

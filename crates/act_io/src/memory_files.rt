@@ -1,7 +1,7 @@
 //! Files in memory.
 ghost use Rattle.std.specs.Prelude.{◌≡◌, ℕ, ◌≤◌, List, [], Some, Err, IfSome, IfOk, map, option_map, string_bytes, vec_len};
-ghost use Rattle.act_io.specs.Fetch.{Fetches, fetch_faults, names_after};
-ghost use Rattle.act_io.specs.Memory.{Answers, content_of, fetch_answer, files_after};
+ghost use Rattle.act_io.specs.Memory.{Answers, content_of, fetch_answer, files_after, world_of};
+ghost use Rattle.act_io.specs.World.{Fetches};
 
 use crate::{FetchFault, Files};
 use std::alloc::Global;
@@ -74,18 +74,10 @@ impl MemFiles {
 }
 
 impl Files for MemFiles {
-    ghost content = { λ m. content_of m.files };
-
-    ghost asked = { λ m. Some m.asked };
-
-    ghost faults = { λ m. m.faults };
+    ghost world = { world_of };
 
     fn fetch(&mut self, alloc: Global, name: &str, limit: u64) -> Result<Vec<u8>, FetchFault>
-        ensures bytes { IfSome (content_of self.old.files name.now) (λ bytes. Fetches bytes limit result) }
-        ensures within { IfOk result (λ bytes. vec_len bytes ≤ limit) }
-        ensures faults { self.new.faults ≡ fetch_faults result self.old.faults }
-        ensures asked { Some self.new.asked ≡ names_after result (Some self.old.asked) name.now }
-        ensures same { self.new.files ≡ self.old.files }
+        ensures fetched { Fetches name.now limit (world_of self.old) result (world_of self.new) }
         ensures answer { Answers result (fetch_answer self.old name.now limit) }
         ensures after { self.new ≡ files_after result self.old name.now }
     {

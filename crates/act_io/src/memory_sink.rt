@@ -2,8 +2,8 @@
 ghost use Rattle.std.specs.Prelude.{◌≡◌, ◌≢◌, ◌≤◌, [], Some, Ok, Err, length};
 ghost use Rattle.act_io.specs.Faults.{last_count};
 ghost use Rattle.act_io.specs.declared.sink.PutFault.TheVariants.{NoMemory};
-ghost use Rattle.act_io.specs.Memory.{put_answer, sink_after};
-ghost use Rattle.act_io.specs.Put.{Puts, first_line, put_faults};
+ghost use Rattle.act_io.specs.Memory.{page_of, put_answer, sink_after};
+ghost use Rattle.act_io.specs.Page.{Puts, first_line};
 
 use crate::sink::first_line;
 use crate::{PutFault, Sink};
@@ -72,14 +72,11 @@ impl MemSink {
 }
 
 impl Sink for MemSink {
-    ghost written = { λ m. Some m.written };
-
-    ghost faults = { λ m. m.faults };
+    ghost page = { page_of };
 
     fn put(&mut self, piece: &[u8]) -> Result<usize, PutFault>
-        ensures took { Puts piece.now (Some self.old.written) (Some self.new.written) result }
+        ensures took { Puts piece.now (page_of self.old) result (page_of self.new) }
         ensures empty { length piece.now ≡ 0 → result ≡ Ok 0 }
-        ensures faults { self.new.faults ≡ put_faults result self.old.faults }
         ensures answer { result ≢ Err NoMemory → result ≡ put_answer self.old piece.now }
         ensures after { self.new ≡ sink_after result self.old piece.now }
     {
@@ -106,9 +103,8 @@ impl Sink for MemSink {
 
     /// Takes from the first line alone, as one call of `put`, so that each line has a number of its own.
     fn put_lines(&mut self, text: &[u8]) -> Result<usize, PutFault>
-        ensures took { Puts text.now (Some self.old.written) (Some self.new.written) result }
+        ensures took { Puts text.now (page_of self.old) result (page_of self.new) }
         ensures empty { length text.now ≡ 0 → result ≡ Ok 0 }
-        ensures faults { self.new.faults ≡ put_faults result self.old.faults }
         ensures answer { result ≢ Err NoMemory → result ≡ put_answer self.old (first_line text.now) }
         ensures after { self.new ≡ sink_after result self.old (first_line text.now) }
     {

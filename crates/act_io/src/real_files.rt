@@ -1,7 +1,7 @@
 //! The files of the system. They tell nothing of contents.
 ghost use Rattle.std.specs.Prelude.{◌≡◌, ◌≤◌, None, IfOk, length, nat_lt, if◌then◌else◌, Ok, Err, vec_len};
 ghost use Rattle.act_io.specs.declared.files.FetchFault.TheVariants.{TooLong};
-ghost use Rattle.act_io.specs.Fetch.{fetch_faults};
+ghost use Rattle.act_io.specs.World.{Fetches};
 
 use crate::{FetchFault, Files};
 use std::alloc::Global;
@@ -35,15 +35,11 @@ impl<'a, R: FileSystem> RealFiles<'a, R> {
 }
 
 impl<R: FileSystem> Files for RealFiles<'_, R> {
-    ghost content = { λ _ _. None };
-
-    ghost asked = { λ _. None };
-
-    ghost faults = { λ f. f };
+    ghost world = { λ faults. record { content = λ _. None; asked = None; faults = faults } };
 
     fn fetch(&mut self, alloc: Global, name: &str, limit: u64) -> Result<Vec<u8>, FetchFault>
-        ensures within { IfOk result (λ bytes. vec_len bytes ≤ limit) }
-        ensures faults { self.new ≡ fetch_faults result self.old }
+        ensures { Fetches name.now limit (record { content = λ _. None; asked = None; faults = self.old }) result
+            (record { content = λ _. None; asked = None; faults = self.new }) }
     {
         match read_past(self.rt, alloc, name, limit) {
             Ok(bytes) => within(bytes, limit),

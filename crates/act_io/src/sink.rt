@@ -1,6 +1,6 @@
 //! Where text is written.
-ghost use Rattle.std.specs.Prelude.{◌≡◌, ℕ, List, Option, Ok, length};
-ghost use Rattle.act_io.specs.Put.{Puts, first_line, put_faults};
+ghost use Rattle.std.specs.Prelude.{◌≡◌, Ok, length};
+ghost use Rattle.act_io.specs.Page.{Page, Puts, first_line};
 
 /// Why nothing was written.
 #[derive(Clone, Copy, Debug, PartialEq, Eq)]
@@ -13,25 +13,21 @@ pub enum PutFault {
 
 /// A place that takes bytes in order.
 pub trait Sink {
-    /// What was written, where the sink tells it.
-    ghost written: { Self → Option (List ℕ) };
-
-    /// How often writing has failed, as far as a counter goes: once more exactly where `Failed` is answered.
-    ghost faults: { Self → ℕ };
+    /// What was written, where the sink tells it, and how often writing has failed, as far as a counter goes: once more exactly
+    /// where `Failed` is answered.
+    ghost page: { Self → Page };
 
     /// Takes the first bytes of the piece and answers how many: at least one of a piece that isn't empty,
     /// 0 of an empty one. A fault means that nothing was taken.
     fn put(&mut self, piece: &[u8]) -> Result<usize, PutFault>
-        ensures took { Puts piece.now (written self.old) (written self.new) result }
-        ensures empty { length piece.now ≡ 0 → result ≡ Ok 0 }
-        ensures faults { faults self.new ≡ put_faults result (faults self.old) };
+        ensures took { Puts piece.now (page self.old) result (page self.new) }
+        ensures empty { length piece.now ≡ 0 → result ≡ Ok 0 };
 
     /// The same for one line or several, or the rest of one: a sink may take several together, or, as here, from the first
     /// alone.
     fn put_lines(&mut self, text: &[u8]) -> Result<usize, PutFault>
-        ensures took { Puts text.now (written self.old) (written self.new) result }
+        ensures took { Puts text.now (page self.old) result (page self.new) }
         ensures empty { length text.now ≡ 0 → result ≡ Ok 0 }
-        ensures faults { faults self.new ≡ put_faults result (faults self.old) }
     {
         self.put(first_line(text))
     }

@@ -2,8 +2,8 @@
 ghost use Rattle.std.specs.Prelude.{◌≡◌, ◌≢◌, [], None, Ok, Err, length};
 ghost use Rattle.act_io.specs.declared.sink.PutFault.TheVariants.{Failed, NoMemory};
 ghost use Rattle.act_io.specs.Faults.{next_count};
-ghost use Rattle.act_io.specs.Gathered.{Gathers};
-ghost use Rattle.act_io.specs.Put.{Puts, put_faults};
+ghost use Rattle.act_io.specs.Gathered.{Gathers, finish_faults};
+ghost use Rattle.act_io.specs.Page.{Puts};
 
 use crate::{PutFault, Sink};
 use std::alloc::Global;
@@ -54,7 +54,7 @@ impl<'a, R: Print> StdSink<'a, R> {
     pub fn finish(&mut self) -> Result<(), PutFault>
         ensures gathered { self.new.gathered ≡ [] }
         ensures memory { result ≢ Err NoMemory }
-        ensures faults { self.new.faults ≡ put_faults result self.old.faults }
+        ensures faults { self.new.faults ≡ finish_faults result self.old.faults }
     {
         let written = self.rt.write_all(&self.gathered);
         self.gathered.clear();
@@ -79,10 +79,9 @@ impl<'a, R: Print> StdSink<'a, R> {
     #[cold]
     #[inline(never)]
     fn put_behind(&mut self, piece: &[u8]) -> Result<usize, PutFault>
-        ensures took { Puts piece.now None None result }
+        ensures took { Puts piece.now (record { written = None; faults = self.old.faults }) result (record { written = None; faults = self.new.faults }) }
         ensures gathered { Gathers piece.now self.old.gathered self.new.gathered result }
         ensures memory { result ≢ Err NoMemory }
-        ensures faults { self.new.faults ≡ put_faults result self.old.faults }
     {
         self.finish()?;
         if piece.len() < LARGE
@@ -96,10 +95,9 @@ impl<'a, R: Print> StdSink<'a, R> {
 
     /// Writes the first bytes of a piece that isn't empty, and answers how many.
     fn write(&mut self, piece: &[u8]) -> Result<usize, PutFault>
-        ensures took { Puts piece.now None None result }
+        ensures took { Puts piece.now (record { written = None; faults = self.old.faults }) result (record { written = None; faults = self.new.faults }) }
         ensures gathered { self.new.gathered ≡ self.old.gathered }
         ensures memory { result ≢ Err NoMemory }
-        ensures faults { self.new.faults ≡ put_faults result self.old.faults }
     {
         for _ in 0..TRIES {
             match self.rt.write_some(piece) {
@@ -113,19 +111,16 @@ impl<'a, R: Print> StdSink<'a, R> {
 }
 
 impl<R: Print> Sink for StdSink<'_, R> {
-    ghost written = { λ _. None };
-
-    ghost faults = { λ s. s.faults };
+    ghost page = { λ s. record { written = None; faults = s.faults } };
 
     /// Where a piece is large or doesn't fit, what is gathered is written first. The piece is then written at once where it is
     /// large, or where there is no memory to gather it; perhaps only its first bytes.
     #[inline]
     fn put(&mut self, piece: &[u8]) -> Result<usize, PutFault>
-        ensures took { Puts piece.now None None result }
+        ensures took { Puts piece.now (record { written = None; faults = self.old.faults }) result (record { written = None; faults = self.new.faults }) }
         ensures empty { length piece.now ≡ 0 → result ≡ Ok 0 }
         ensures gathered { Gathers piece.now self.old.gathered self.new.gathered result }
         ensures memory { result ≢ Err NoMemory }
-        ensures faults { self.new.faults ≡ put_faults result self.old.faults }
     {
         if piece.is_empty() {
             return Ok(0);
@@ -143,11 +138,10 @@ impl<R: Print> Sink for StdSink<'_, R> {
     /// Takes lines together, as one piece.
     #[inline]
     fn put_lines(&mut self, text: &[u8]) -> Result<usize, PutFault>
-        ensures took { Puts text.now None None result }
+        ensures took { Puts text.now (record { written = None; faults = self.old.faults }) result (record { written = None; faults = self.new.faults }) }
         ensures empty { length text.now ≡ 0 → result ≡ Ok 0 }
         ensures gathered { Gathers text.now self.old.gathered self.new.gathered result }
         ensures memory { result ≢ Err NoMemory }
-        ensures faults { self.new.faults ≡ put_faults result self.old.faults }
     {
         self.put(text)
     }

@@ -8,16 +8,13 @@ use Rattle.std.proofs.lemmas.List.FromFn.{get_or-range_with_len, length-range_wi
 use Rattle.std.proofs.lemmas.Option.{same_Some, slice_get_within}
 use Rattle.act_model.specs.Journal.{contracts_of}
 use Rattle.act_model.specs.declared.asks.Asking.{Asking}
-use Rattle.act_model.specs.declared.journal.Item.{Item}
-use Rattle.act_model.specs.declared.observed.Obs.{Obs}
 use Rattle.act_profile.specs.Reads.{is_in}
 use Rattle.act_history.specs.History.{History, IsWanted, and_then, has_result, is_give_up, is_given_up, open_asks, version_of}
-use Rattle.act_keeping.specs.Kept.{AreCallers, ClosesOldest, IsAsk, IsBoard, IsCaller, Keeping, owed_by}
+use Rattle.act_keeping.specs.Keeping.{AreCallers, ClosesOldest, IsAsk, IsBoard, IsCaller, Keeping, owed_by}
 use Rattle.act_history.specs.Legal.{IsLegal, IsOldest, IsReady}
 use Rattle.act_keeping.specs.declared.caller.Caller.{Caller}
 use Rattle.act_history.specs.declared.mark.Mark.{Mark}
 use Rattle.act_history.specs.declared.mark.Mark.TheVariants as mark
-use Rattle.act_keeping.specs.declared.pair.Pair.{Pair}
 use Rattle.act_keeping.proofs.Boards.{caller-told, open-none, same-none, stay-none}
 use Rattle.act_keeping.proofs.Callers.{caller-collected, callers-next, spares-collect, sum-written}
 use Rattle.act_history.proofs.Going.{any-not, asks-same, entries-same, journal-same, open-less, sound-next}

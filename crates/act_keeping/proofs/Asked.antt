@@ -11,7 +11,7 @@ use Rattle.act_model.specs.declared.journal.Item.{Item}
 use Rattle.act_model.specs.declared.journal.Step.TheVariants as step
 use Rattle.act_model.specs.declared.observed.Obs.{Obs}
 use Rattle.act_history.specs.History.{History, and_then, asks_by, entries_of, is_give_up, is_given_up, open_asks, version_of}
-use Rattle.act_keeping.specs.Kept.{AreCallers, IsBoard, IsCaller, IsPast, Keeping, OpensAsk, contract_at, owed_by}
+use Rattle.act_keeping.specs.Keeping.{AreCallers, IsBoard, IsCaller, IsPast, Keeping, OpensAsk, contract_at, owed_by}
 use Rattle.act_history.specs.Legal.{IsLegal}
 use Rattle.act_accepted.specs.Accepted.{Accepted}
 use Rattle.act_history.specs.Reached.{AreBelow, is_reached}

@@ -8,12 +8,11 @@ use Rattle.act_model.specs.declared.journal.Item.{Item}
 use Rattle.act_model.specs.declared.journal.Step.TheVariants as step
 use Rattle.act_model.specs.declared.observed.Obs.{Obs}
 use Rattle.act_history.specs.History.{History, and_then, entries_of, is_collect_by, is_give_up, is_given_up, item_of, open_asks, version_of}
-use Rattle.act_keeping.specs.Kept.{AreCallers, IsBoard, IsCaller, IsUntouched, Keeping, Leaves, Spends, owed_by, owed_for}
+use Rattle.act_keeping.specs.Keeping.{AreCallers, IsBoard, IsCaller, IsUntouched, Keeping, Leaves, Spends, owed_by, owed_for}
 use Rattle.act_history.specs.Legal.{IsLegal}
 use Rattle.act_keeping.specs.declared.caller.Caller.{Caller}
 use Rattle.act_history.specs.declared.mark.Mark.{Mark}
 use Rattle.act_history.specs.declared.mark.Mark.TheVariants as mark
-use Rattle.act_keeping.specs.declared.pair.Pair.{Pair}
 use Rattle.act_keeping.proofs.Callers.{caller-at, caller-appended, caller-left, callers-next, callers-same, callers-spared, spares-append, spares-give_up, spares-leave, sum-written}
 use Rattle.act_history.proofs.Going.{any-not, any-yes, asks-append, asks-same, entries-more, entries-same, journal-more, journal-same, open-same, sound-next}
 use Rattle.act_keeping.proofs.Pairs.{Stay, pairs-quiet}

@@ -12,7 +12,7 @@ use Rattle.act_model.specs.declared.journal.Asked.{Asked}
 use Rattle.act_model.specs.declared.journal.Step.TheVariants as step
 use Rattle.act_model.specs.declared.observed.Obs.{Obs}
 use Rattle.act_history.specs.History.{History, and_then, appended_by, asks_by, collected_by, has_left, is_append_by, is_collect_by, is_give_up, is_given_up, is_leave_by, open_asks, version_of}
-use Rattle.act_keeping.specs.Kept.{AreCallers, IsAsk, IsCaller}
+use Rattle.act_keeping.specs.Keeping.{AreCallers, IsAsk, IsCaller}
 use Rattle.act_keeping.specs.declared.caller.Caller.{Caller}
 use Rattle.act_history.specs.declared.mark.Mark.{Mark}
 use Rattle.act_history.specs.declared.mark.Mark.TheVariants as mark

@@ -5,13 +5,11 @@ use Rattle.std.specs.List.{Contains, list_all, slice_get}
 use Rattle.std.proofs.lemmas.Bool.{and_parts, cases_Bool, cases_lt, cases_order}
 use Rattle.std.proofs.lemmas.List.{length_push}
 use Rattle.std.proofs.lemmas.Option.{get_or_from_slice_get, same_Some, slice_get-get_or, slice_get_within}
-use Rattle.act_model.specs.declared.journal.Item.{Item}
-use Rattle.act_model.specs.declared.observed.Obs.{Obs}
 use Rattle.act_refs.specs.Path.{IsChild}
 use Rattle.act_refs.proofs.Depths.{place}
 use Rattle.act_refs.proofs.Ordering.{order_of-reference}
 use Rattle.act_history.specs.History.{History, IsWanted, and_then, has_left, has_result, is_claimed, is_give_up, is_given_up, open_asks, version_of, was_claimed}
-use Rattle.act_keeping.specs.Kept.{HaveResults, IsAt, IsBoard, IsFreeAt, IsPast, IsPut, IsResult, IsUnderWay, Keeping, NoneIsFree, contract_at, is_under_way, is_waiting, owed_for}
+use Rattle.act_keeping.specs.Keeping.{HaveResults, IsAt, IsBoard, IsFreeAt, IsPast, IsPut, IsResult, IsUnderWay, Keeping, NoneIsFree, contract_at, is_under_way, is_waiting, owed_for}
 use Rattle.act_history.specs.Legal.{HasEnded, IsClaimable, IsLegal, IsNext, NoneIsClaimable}
 use Rattle.act_keeping.specs.declared.caller.Caller.{Caller}
 use Rattle.act_history.specs.declared.mark.Mark.{Mark}

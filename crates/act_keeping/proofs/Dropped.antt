@@ -4,13 +4,10 @@ use Rattle.std.specs.List.{Contains, slice_get}
 use Rattle.std.proofs.lemmas.List.Sums.{sum_by-cons}
 use Rattle.std.proofs.lemmas.Option.{same_Some, slice_get-get_or, slice_get_within}
 use Rattle.act_model.specs.declared.asks.Asking.{Asking}
-use Rattle.act_model.specs.declared.journal.Item.{Item}
-use Rattle.act_model.specs.declared.observed.Obs.{Obs}
 use Rattle.act_refs.specs.Path.{IsChild}
 use Rattle.act_keeping.specs.Dropping.{Drops, IsDropped, IsUnasked}
 use Rattle.act_history.specs.History.{History, IsWanted, has_result}
-use Rattle.act_keeping.specs.Kept.{ArePairs, Has, IsAt, IsBoard, IsListed, IsOver, IsPair, Keeping, contract_at, is_done, is_under_way, is_waiting, owed_for}
-use Rattle.act_keeping.specs.declared.caller.Caller.{Caller}
+use Rattle.act_keeping.specs.Keeping.{ArePairs, Has, IsAt, IsBoard, IsListed, IsUnwanted, IsPair, Keeping, contract_at, is_done, is_under_way, is_waiting, owed_for}
 use Rattle.act_keeping.specs.declared.pair.Pair.{Pair}
 use Rattle.act_keeping.specs.declared.pair.Progress.{Progress}
 use Rattle.act_keeping.specs.declared.pair.Progress.TheVariants.{Waiting, Claimed, Done, Dropped}
@@ -67,7 +64,7 @@ some-there (x ∷ xs) (suc k) lt = some-there xs k (omega arith)
 module _ (history : History) (kept : Keeping) (b : IsBoard history kept)
     (new : List Pair) (drops : Drops kept.pairs kept.callers (length kept.book) new) where
   -- a version that no open ask is of is over
-  over : (v : ℕ) → IsUnasked kept.callers (length kept.book) v → IsOver history v
+  over : (v : ℕ) → IsUnasked kept.callers (length kept.book) v → IsUnwanted history v
   over v unasked = (omega (arith, unasked.0, ap length b.entries), λ c wanted. none c wanted)
     where
       none : (c : ℕ) → ¬ (IsWanted history c v)

@@ -6,7 +6,7 @@ use Rattle.std.proofs.lemmas.List.{take-append-drop}
 use Rattle.std.proofs.lemmas.List.Edits.{length-insert}
 use Rattle.std.proofs.lemmas.List.Sums.{sum_by-append, sum_by-cons}
 use Rattle.std.proofs.lemmas.Option.{slice_get-get_or, slice_get_within}
-use Rattle.act_keeping.specs.Kept.{AreSorted, Has, IsListed, is_before, owed_for}
+use Rattle.act_keeping.specs.Keeping.{AreSorted, Has, IsListed, is_before, owed_for}
 use Rattle.act_keeping.specs.Wanting.{IsAdded, IsExtended, IsNew, IsPlaceOf, waiting}
 use Rattle.act_keeping.specs.declared.pair.Pair.{Pair}
 use Rattle.act_keeping.proofs.Ordered.{before-is, before-so}

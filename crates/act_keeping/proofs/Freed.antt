@@ -6,7 +6,7 @@ use Rattle.std.proofs.lemmas.List.Sums.{sum_by-drop_more, sum_by-set, sum_by-tak
 use Rattle.std.proofs.lemmas.List.{drop_all, length-take-le}
 use Rattle.std.proofs.lemmas.List.Edits.{length-insert}
 use Rattle.std.proofs.lemmas.Option.{get_or_from_slice_get, same_Some, slice_get-get_or, slice_get_within}
-use Rattle.act_keeping.specs.Kept.{AreSorted, HasAt, IsPast, is_waiting}
+use Rattle.act_keeping.specs.Keeping.{AreSorted, HasAt, IsPast, is_waiting}
 use Rattle.act_keeping.specs.Ready.{AreApart, AreDescending, AreFree, AreFreeFrom, AreSettled, IsFree, IsNoted, IsPlaced, Lacks, Lowers, MayLower, blocked, due, is_of, times}
 use Rattle.act_keeping.specs.declared.pair.Pair.{Pair}
 use Rattle.act_keeping.proofs.Ordered.{one-only}

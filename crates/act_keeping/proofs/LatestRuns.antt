@@ -21,11 +21,11 @@ use Rattle.act_profile.specs.Reads.{cut_by}
 use Rattle.act_profile.specs.Run.{Contracts, deepest, run_of}
 use Rattle.act_profile.specs.DayOrder.{AreInDayOrder}
 use Rattle.act_history.specs.History.{History, and_then, entries_of, item_of, version_of}
-use Rattle.act_keeping.specs.Kept.{IsResult}
+use Rattle.act_keeping.specs.Keeping.{IsResult}
 use Rattle.act_keeping.specs.Latest.{AreLatest, IsCached, NoneYet, cached_version, cut_at, cut_for, finished_version, is_later, kept_at, kept_for, kept_rows, kept_under}
 use Rattle.act_keeping.specs.Tasks.{GoesOnFrom, MayGoOn}
 use Rattle.act_keeping.specs.declared.latest.Cached.{Cached}
-use Rattle.act_keeping.specs.declared.latest.Latest.{Latest}
+use Rattle.act_keeping.specs.declared.latest.LatestResult.{LatestResult}
 use Rattle.act_history.specs.declared.mark.Mark.{Mark}
 use Rattle.act_history.specs.declared.mark.Mark.TheVariants as mark
 use Rattle.act_keeping.proofs.Boards.{same-none, stay-none}
@@ -35,8 +35,8 @@ use Rattle.act_history.proofs.Places.{get-set_cases}
 
 -- ---- what a mark changes
 
-abbrev version_in : Option Latest → Option ℕ
-version_in one = option_map (λ (l : Latest). l.version) one
+abbrev version_in : Option LatestResult → Option ℕ
+version_in one = option_map (λ (l : LatestResult). l.version) one
 
 module _ (history : History) (m : Mark) where
   abbrev after : History
@@ -49,7 +49,7 @@ module _ (history : History) (m : Mark) where
   result-still stay grows c v run is =
       (omega (arith, is.0, grows), (is.1.0 ∙ ap (λ (entries : List Obs). run_of history.portfolio.contracts entries c) (sym (stay v is.0)), is.1.1))
 
-  latest-still : (latest : List (Option Latest)) → Stay history m → version_of history ≤ version_of after → ((c : ℕ) → finished_version c m ≡ None) → AreLatest history latest → AreLatest after latest
+  latest-still : (latest : List (Option LatestResult)) → Stay history m → version_of history ≤ version_of after → ((c : ℕ) → finished_version c m ≡ None) → AreLatest history latest → AreLatest after latest
   latest-still latest stay grows none are = record {
     count = are.count;
     versions = λ c one at. are.versions c one at ∙ sym (cached-same c (none c));
@@ -58,7 +58,7 @@ module _ (history : History) (m : Mark) where
 
 -- ---- marks that finish nothing
 
-module _ (history : History) (latest : List (Option Latest)) (are : AreLatest history latest) (m : Mark) (marks : List Mark) (marked : marks ≡ history.marks ++ m ∷ []) (none : (c : ℕ) → finished_version c m ≡ None) where
+module _ (history : History) (latest : List (Option LatestResult)) (are : AreLatest history latest) (m : Mark) (marks : List Mark) (marked : marks ≡ history.marks ++ m ∷ []) (none : (c : ℕ) → finished_version c m ≡ None) where
   abbrev next : History
   next = record { portfolio = history.portfolio; quotas = history.quotas; marks = marks }
 
@@ -94,15 +94,15 @@ not-less v w not = elim (cases_lt v w) [
   | inr le ↦ le
 ]
 
-greater-later : (one : Option Latest) (v : ℕ) → is_later one v ≡ true → version_in one ≡ Some (greater (version_in one) v)
+greater-later : (one : Option LatestResult) (v : ℕ) → is_later one v ≡ true → version_in one ≡ Some (greater (version_in one) v)
 greater-later None v is = absurd (cc)
 greater-later (Some one) v is = ap Some (sym (max-eq_left (omega (arith, ltb-true v one.version is))))
 
-greater-not : (one : Option Latest) (v : ℕ) → is_later one v ≡ false → Some v ≡ Some (greater (version_in one) v)
+greater-not : (one : Option LatestResult) (v : ℕ) → is_later one v ≡ false → Some v ≡ Some (greater (version_in one) v)
 greater-not None v is = refl
 greater-not (Some one) v is = ap Some (sym (max-eq_right (not-less v one.version is)))
 
-module _ (history : History) (latest new : List (Option Latest)) (d v : ℕ) (run : Arc Stream Global) (are : AreLatest history latest) (within : d < length latest) (known : v ≤ version_of history) (result : IsResult history d v (arc_value run))
+module _ (history : History) (latest new : List (Option LatestResult)) (d v : ℕ) (run : Arc Stream Global) (are : AreLatest history latest) (within : d < length latest) (known : v ≤ version_of history) (result : IsResult history d v (arc_value run))
     (later : is_later (slice_index_or latest d None) v ≡ true → new ≡ latest) (put : is_later (slice_index_or latest d None) v ≡ false → new ≡ set latest d (Some (record { version = v; run = run }))) where
   abbrev n : Mark
   n = mark.Finish d v
@@ -110,7 +110,7 @@ module _ (history : History) (latest new : List (Option Latest)) (d v : ℕ) (ru
   abbrev finished : History
   finished = and_then history n
 
-  abbrev old : Option Latest
+  abbrev old : Option LatestResult
   old = slice_index_or latest d None
 
   own : finished_version d n ≡ Some v
@@ -145,7 +145,7 @@ module _ (history : History) (latest new : List (Option Latest)) (d v : ℕ) (ru
     results = λ c one at. still c one.version (arc_value one.run) (are.results c one at);
   }
 
-  abbrev taken : Latest
+  abbrev taken : LatestResult
   taken = record { version = v; run = run }
 
   kept-put : is_later old v ≡ false → AreLatest finished (set latest d (Some taken))
@@ -158,7 +158,7 @@ module _ (history : History) (latest new : List (Option Latest)) (d v : ℕ) (ru
     results = λ c one at. elim (get-set_cases latest d c (Some taken) (Some one) within at) [
       | inl here ↦
           let same : taken ≡ one = same_Some taken one here.1 in
-          subst (λ (l : Latest). (l.version ≤ version_of finished) × IsResult finished c l.version (arc_value l.run)) same
+          subst (λ (l : LatestResult). (l.version ≤ version_of finished) × IsResult finished c l.version (arc_value l.run)) same
           (subst (λ (k : ℕ). (v ≤ version_of finished) × IsResult finished k v (arc_value run)) (sym here.0) (still d v (arc_value run) (known, result)))
       | inr apart ↦ still c one.version (arc_value one.run) (are.results c one apart.1)
     ];
@@ -179,7 +179,7 @@ module _ (history : History) (latest new : List (Option Latest)) (d v : ℕ) (ru
 
 -- ---- a board on which nothing has happened
 
-pub latest-fresh : (portfolio : Accepted) (quotas : List ℕ) (latest : List (Option Latest)) → NoneYet (length portfolio.contracts.terms) latest → AreLatest (record { portfolio = portfolio; quotas = quotas; marks = [] }) latest
+pub latest-fresh : (portfolio : Accepted) (quotas : List ℕ) (latest : List (Option LatestResult)) → NoneYet (length portfolio.contracts.terms) latest → AreLatest (record { portfolio = portfolio; quotas = quotas; marks = [] }) latest
 latest-fresh portfolio quotas latest none = record {
   count = none.count;
   versions = λ c one at. ap version_in (none.each c one at);
@@ -188,14 +188,14 @@ latest-fresh portfolio quotas latest none = record {
 
 -- ---- what an evaluation goes on from
 
-module _ (history : History) (latest : List (Option Latest)) (are : AreLatest history latest) (c v : ℕ) (within : c < length latest) (cached : Cached) where
+module _ (history : History) (latest : List (Option LatestResult)) (are : AreLatest history latest) (c v : ℕ) (within : c < length latest) (cached : Cached) where
   abbrev contracts : Contracts
   contracts = history.portfolio.contracts
 
   abbrev entries : List Obs
   entries = entries_of history
 
-  kept-by : (one : Option Latest) → slice_get latest c ≡ Some one → IsCached contracts entries c v one cached → kept_under cached.run cached.cut ≡ kept_at contracts entries c v (version_in one)
+  kept-by : (one : Option LatestResult) → slice_get latest c ≡ Some one → IsCached contracts entries c v one cached → kept_under cached.run cached.cut ≡ kept_at contracts entries c v (version_in one)
   kept-by None at is = ap (λ (r : Option (Arc Stream Global)). kept_under r cached.cut) is.0
   kept-by (Some one) at is =
       let result = (are.results c one at).1 in
@@ -203,10 +203,10 @@ module _ (history : History) (latest : List (Option Latest)) (are : AreLatest hi
       ∙ (ap (λ (s : Stream). kept_of s cached.cut) (is.2 ∙ result.0) ∙ ap (λ (cut : Option ℤ). kept_of (run_of contracts (take one.version entries) c) cut) is.3)
 
   -- the same, as it is read
-  pub cached-told : (portfolio : Accepted) (book : List Obs) (read : List (Option Latest)) → portfolio ≡ history.portfolio → book ≡ entries → read ≡ latest
+  pub cached-told : (portfolio : Accepted) (book : List Obs) (read : List (Option LatestResult)) → portfolio ≡ history.portfolio → book ≡ entries → read ≡ latest
       → IsCached portfolio.contracts book c v (slice_index_or read c None) cached → IsCached contracts entries c v (slice_index_or latest c None) cached
   cached-told portfolio book read of booked same is =
-      subst (λ (xs : List (Option Latest)). IsCached contracts entries c v (slice_index_or xs c None) cached) same
+      subst (λ (xs : List (Option LatestResult)). IsCached contracts entries c v (slice_index_or xs c None) cached) same
       (subst (λ (xs : List Obs). IsCached contracts xs c v (slice_index_or read c None) cached) booked
       (subst (λ (p : Accepted). IsCached p.contracts book c v (slice_index_or read c None) cached) of is))
 
@@ -216,7 +216,7 @@ module _ (history : History) (latest : List (Option Latest)) (are : AreLatest hi
       let at = slice_get-get_or latest c None within in
       kept-by (slice_index_or latest c None) at is ∙ ap (kept_at contracts entries c v) (are.versions c (slice_index_or latest c None) at)
 
-  cut-by : (one : Option Latest) → IsCached contracts entries c v one cached → cached.cut ≡ cut_at contracts entries c v (version_in one)
+  cut-by : (one : Option LatestResult) → IsCached contracts entries c v one cached → cached.cut ≡ cut_at contracts entries c v (version_in one)
   cut-by None is = is.1
   cut-by (Some one) is = is.3
 
@@ -230,7 +230,7 @@ module _ (history : History) (latest : List (Option Latest)) (are : AreLatest hi
     abbrev wanted : Stream
     wanted = run_of contracts (take v entries) c
 
-    goes-by : (one : Option Latest) → slice_get latest c ≡ Some one → IsCached contracts entries c v one cached → MayGoOn wanted cached.run cached.cut
+    goes-by : (one : Option LatestResult) → slice_get latest c ≡ Some one → IsCached contracts entries c v one cached → MayGoOn wanted cached.run cached.cut
     goes-by None at is = subst (λ (r : Option (Arc Stream Global)). MayGoOn wanted r cached.cut) (sym is.0) tt
     goes-by (Some one) at is =
         let result = (are.results c one at).1 in

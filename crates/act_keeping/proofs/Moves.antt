@@ -14,7 +14,7 @@ use Rattle.act_profile.specs.Run.{run_of}
 use Rattle.act_refs.specs.Ordered.{order_of}
 use Rattle.act_refs.specs.Path.{IsChild}
 use Rattle.act_history.specs.History.{History, IsWanted, and_then, has_result, is_claim_of, is_finish_of, is_give_up, is_given_up, open_asks, version_of, was_claimed}
-use Rattle.act_keeping.specs.Kept.{ArePairs, Has, HaveResults, IsAt, IsListed, IsOver, IsPair, IsPut, IsResult, contract_at, is_waiting}
+use Rattle.act_keeping.specs.Keeping.{ArePairs, Has, HaveResults, IsAt, IsListed, IsUnwanted, IsPair, IsPut, IsResult, contract_at, is_waiting}
 use Rattle.act_history.specs.Legal.{IsReady}
 use Rattle.act_history.specs.Reached.{is_reached}
 use Rattle.act_keeping.specs.Wanting.{IsExtended, IsNew}
@@ -127,7 +127,7 @@ module _ (history : History) (caller : ℕ) (asked : Asked) (old new : List Pair
           | inr none_yet ↦ none_yet
         ]
 
-    over-still : (w : ℕ) → IsOver history w → IsOver asking w
+    over-still : (w : ℕ) → IsUnwanted history w → IsUnwanted asking w
     over-still w over = (
       omega (arith, over.0, same),
       λ c is. elim (wanted-cases c w is) [ inl before ↦ over.1 c before | inr now ↦ absurd (omega (arith, over.0, now.0)) ],

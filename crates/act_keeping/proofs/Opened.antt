@@ -7,7 +7,7 @@ use Rattle.act_model.specs.declared.asks.Asking.{Asking}
 use Rattle.act_accepted.specs.Accepted.{Accepted}
 use Rattle.act_refs.specs.Ordered.{order_of}
 use Rattle.act_history.specs.History.{History}
-use Rattle.act_keeping.specs.Kept.{AreCallers, AreNewcomers, ArePairs, IsAsk, IsBoard, owed_by}
+use Rattle.act_keeping.specs.Keeping.{AreCallers, AreNewcomers, ArePairs, IsAsk, IsBoard, owed_by}
 use Rattle.act_keeping.specs.declared.caller.Caller.{Caller}
 
 -- newcomers owe that they leave, and may append as many entries as the quotas say

@@ -3,7 +3,7 @@ use Rattle.std.proofs.Common.{◌≡◌, ◌⊎◌, ℕ, zero, suc, ◌+◌, ◌
 use Rattle.std.specs.List.{slice_get}
 use Rattle.std.proofs.lemmas.Bool.{and_from, and_parts, cases_order, eqb-true, lt-ltb, ltb-true, or_cases}
 use Rattle.std.proofs.lemmas.Option.{same_Some, slice_get_within}
-use Rattle.act_keeping.specs.Kept.{AreSorted, IsListed, is_before}
+use Rattle.act_keeping.specs.Keeping.{AreSorted, IsListed, is_before}
 use Rattle.act_keeping.specs.Wanting.{IsPlaceOf}
 use Rattle.act_keeping.specs.declared.pair.Pair.{Pair}
 use Rattle.act_history.proofs.Reaching.{left-so, right-so}

@@ -17,7 +17,7 @@ use Rattle.act_refs.proofs.Ordering.{order_of-reference}
 use Rattle.act_refs.proofs.Paths.{HasPath-first, HasPath-nowhere, IsChild-within}
 use Rattle.act_model.specs.Journal.{contracts_of}
 use Rattle.act_history.specs.History.{History, IsWanted, and_then, entries_of, has_result, is_claim_of, is_finish_of, is_given_up, open_asks, version_of, was_claimed}
-use Rattle.act_keeping.specs.Kept.{ArePairs, AreSorted, Has, IsAt, IsListed, IsOver, IsPair, IsPut, contract_at, is_before, is_waiting, owed_for}
+use Rattle.act_keeping.specs.Keeping.{ArePairs, AreSorted, Has, IsAt, IsListed, IsUnwanted, IsPair, IsPut, contract_at, is_before, is_waiting, owed_for}
 use Rattle.act_history.specs.Legal.{IsReady}
 use Rattle.act_history.specs.Reached.{is_reached}
 use Rattle.act_history.specs.declared.mark.Mark.{Mark}
@@ -53,10 +53,10 @@ module _ (history : History) (m : Mark) where
   Stay = (v : ℕ) → v ≤ version_of history → take v (entries_of after) ≡ take v (entries_of history)
 
   -- nothing can be asked for that couldn't
-  pub over-back : version_of history ≤ version_of after → ((c v : ℕ) → IsWanted after c v → IsWanted history c v) → (v : ℕ) → IsOver history v → IsOver after v
+  pub over-back : version_of history ≤ version_of after → ((c v : ℕ) → IsWanted after c v → IsWanted history c v) → (v : ℕ) → IsUnwanted history v → IsUnwanted after v
   over-back grows back v over = (omega (arith, over.0, grows), λ c wanted. over.1 c (back c v wanted))
 
-  at-same : (c v : ℕ) (p : Progress) → Stay → v ≤ version_of history → is_claim_of c v m ≡ false → is_finish_of c v m ≡ false → (IsOver history v → IsOver after v) → IsAt history c v p → IsAt after c v p
+  at-same : (c v : ℕ) (p : Progress) → Stay → v ≤ version_of history → is_claim_of c v m ≡ false → is_finish_of c v m ≡ false → (IsUnwanted history v → IsUnwanted after v) → IsAt history c v p → IsAt after c v p
   at-same c v Waiting stay within no_claim no_finish over at = (claimed-same c v no_claim ∙ at.0, result-same c v no_finish ∙ at.1)
   at-same c v Claimed stay within no_claim no_finish over at = (claimed-same c v no_claim ∙ at.0, result-same c v no_finish ∙ at.1)
   at-same c v Dropped stay within no_claim no_finish over at = (result-same c v no_finish ∙ at.0, over at.1)
@@ -65,7 +65,7 @@ module _ (history : History) (m : Mark) where
 
   -- a pair of which nothing is said stays as it is
   pub pair-same : (pair : Pair) → Stay → version_of history ≤ version_of after → is_claim_of (contract_at history pair.rank) pair.version m ≡ false → is_finish_of (contract_at history pair.rank) pair.version m ≡ false
-      → (IsOver history pair.version → IsOver after pair.version) → IsPair history pair → IsPair after pair
+      → (IsUnwanted history pair.version → IsUnwanted after pair.version) → IsPair history pair → IsPair after pair
   pair-same pair stay grows no_claim no_finish over is = record {
     version = omega (arith, is.version, grows);
     rank = is.rank;

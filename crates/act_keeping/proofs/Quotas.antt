@@ -1,14 +1,11 @@
 -- What a board tells of a caller's quota and of how much it has asked.
-use Rattle.std.proofs.Common.{◌≡◌, ℕ, zero, suc, ◌-◌, ◌<◌, ◌≤◌, Bool, List, [], ◌∷◌, length, Some, refl, sym, ap, ◌∙◌, arith}
+use Rattle.std.proofs.Common.{◌≡◌, ℕ, zero, suc, ◌-◌, ◌<◌, ◌≤◌, List, [], ◌∷◌, length, Some, refl, sym, ap, ◌∙◌, arith}
 use Rattle.std.specs.List.{slice_get}
 use Rattle.std.proofs.lemmas.Option.{same_Some}
-use Rattle.act_model.specs.declared.journal.Item.{Item}
-use Rattle.act_model.specs.declared.observed.Obs.{Obs}
 use Rattle.act_history.specs.History.{History, asks_by, open_asks}
-use Rattle.act_keeping.specs.Kept.{IsBoard, IsCaller, Keeping}
+use Rattle.act_keeping.specs.Keeping.{IsBoard, IsCaller, Keeping}
 use Rattle.act_history.specs.Legal.{HasQuota}
 use Rattle.act_keeping.specs.declared.caller.Caller.{Caller}
-use Rattle.act_keeping.specs.declared.pair.Pair.{Pair}
 use Rattle.act_keeping.proofs.Boards.{caller-told}
 use Rattle.act_keeping.proofs.Callers.{sum-written}
 

@@ -9,9 +9,9 @@ use Rattle.act_accepted.specs.Accepted.{Accepted}
 use Rattle.act_refs.specs.Path.{child_lists, children_of}
 use Rattle.act_keeping.specs.Dropping.{Drops}
 use Rattle.act_history.specs.History.{History, and_then, has_result, is_claimed, is_finish_of, was_claimed}
-use Rattle.act_keeping.specs.Kept.{AreSorted, Has, HaveResults, IsBoard, IsFreeAt, IsPut, IsUnderWay, Keeping, LacksResult, NoneIsFree, contract_at, is_under_way, is_waiting}
+use Rattle.act_keeping.specs.Keeping.{AreSorted, Has, HaveResults, IsBoard, IsFreeAt, IsPut, IsUnderWay, Keeping, LacksResult, NoneIsFree, contract_at, is_under_way, is_waiting}
 use Rattle.act_history.specs.Legal.{IsNext, NoneIsClaimable}
-use Rattle.act_keeping.specs.Ready.{AreFree, AreParents, AreSettled, IsFree, IsReady, Lacks, blocked, due, lacking_of, times}
+use Rattle.act_keeping.specs.Ready.{AreFree, AreParents, AreSettled, IsFree, AreReadyLists, Lacks, blocked, due, lacking_of, times}
 use Rattle.act_keeping.specs.Wanting.{IsExtended}
 use Rattle.act_keeping.specs.declared.caller.Caller.{Caller}
 use Rattle.act_history.specs.declared.mark.Mark.{Mark}
@@ -19,8 +19,6 @@ use Rattle.act_history.specs.declared.mark.Mark.TheVariants as mark
 use Rattle.act_keeping.specs.declared.pair.Pair.{Pair}
 use Rattle.act_keeping.specs.declared.pair.Progress.{Progress}
 use Rattle.act_keeping.specs.declared.pair.Progress.TheVariants.{Waiting, Claimed, Done, Dropped}
-use Rattle.act_model.specs.declared.journal.Item.{Item}
-use Rattle.act_model.specs.declared.observed.Obs.{Obs}
 use Rattle.act_keeping.proofs.Claimed.{claim-next, claim-none, claimable-place, some-within}
 use Rattle.act_keeping.proofs.Dropped.{same-waiting}
 use Rattle.act_keeping.proofs.Ordered.{one-only, same-pair}
@@ -80,12 +78,12 @@ module _ (history : History) (c v : ℕ) where
 
 -- ---- marks that finish nothing
 
-module _ (history : History) (pairs : List Pair) (lacking places : List ℕ) (capacity : ℕ) (parents : List (Vec ℕ Global)) (is : IsReady history pairs lacking places capacity parents) (m : Mark) (marks : List Mark) (marked : marks ≡ history.marks ++ m ∷ []) (none : (c v : ℕ) → is_finish_of c v m ≡ false) where
+module _ (history : History) (pairs : List Pair) (lacking places : List ℕ) (capacity : ℕ) (parents : List (Vec ℕ Global)) (is : AreReadyLists history pairs lacking places capacity parents) (m : Mark) (marks : List Mark) (marked : marks ≡ history.marks ++ m ∷ []) (none : (c v : ℕ) → is_finish_of c v m ≡ false) where
   pub lacking-same : (c v : ℕ) → lacking_of (and_then history m) c v ≡ lacking_of history c v
   lacking-same c v = count-same (λ (d : ℕ). not (has_result (and_then history m) d v)) (λ (d : ℕ). not (has_result history d v)) (children_of history.portfolio.contracts.children c) (λ d. ap not (result-same history m d v (none d v)))
 
-  pub ready-quiet : IsReady (record { portfolio = history.portfolio; quotas = history.quotas; marks = marks }) pairs lacking places capacity parents
-  ready-quiet = subst (λ (ms : List Mark). IsReady (record { portfolio = history.portfolio; quotas = history.quotas; marks = ms }) pairs lacking places capacity parents) (sym marked) (record {
+  pub ready-quiet : AreReadyLists (record { portfolio = history.portfolio; quotas = history.quotas; marks = marks }) pairs lacking places capacity parents
+  ready-quiet = subst (λ (ms : List Mark). AreReadyLists (record { portfolio = history.portfolio; quotas = history.quotas; marks = ms }) pairs lacking places capacity parents) (sym marked) (record {
     turned = is.turned;
     count = is.count;
     counted = λ k n pair at here waits. is.counted k n pair at here waits ∙ sym (lacking-same (contract_at history pair.rank) pair.version);
@@ -108,7 +106,7 @@ module _ (old new : List Pair) (lacking places : List ℕ)
 
 -- ---- the next
 
-module _ (history : History) (pairs : List Pair) (lacking places : List ℕ) (capacity : ℕ) (parents : List (Vec ℕ Global)) (is : IsReady history pairs lacking places capacity parents) where
+module _ (history : History) (pairs : List Pair) (lacking places : List ℕ) (capacity : ℕ) (parents : List (Vec ℕ Global)) (is : AreReadyLists history pairs lacking places capacity parents) where
   -- what isn't free waits for a result
   not-free : (k : ℕ) (pair : Pair) → slice_get pairs k ≡ Some pair → is_waiting pair.progress ≡ true → ¬ (IsFree pairs lacking k) → LacksResult history (contract_at history pair.rank) pair.version
   not-free k pair at waits not =
@@ -143,14 +141,14 @@ module _ (history : History) (pairs : List Pair) (lacking places : List ℕ) (ca
 
 -- ---- an ask
 
-module _ (history : History) (pairs : List Pair) (lacking places : List ℕ) (capacity : ℕ) (parents : List (Vec ℕ Global)) (is : IsReady history pairs lacking places capacity parents) (m : Mark) (marks : List Mark) (marked : marks ≡ history.marks ++ m ∷ []) (none : (c v : ℕ) → is_finish_of c v m ≡ false)
+module _ (history : History) (pairs : List Pair) (lacking places : List ℕ) (capacity : ℕ) (parents : List (Vec ℕ Global)) (is : AreReadyLists history pairs lacking places capacity parents) (m : Mark) (marks : List Mark) (marked : marks ≡ history.marks ++ m ∷ []) (none : (c v : ℕ) → is_finish_of c v m ≡ false)
     (pairs' : List Pair) (lacking' places' : List ℕ) (capacity' start : ℕ) (count : length lacking' ≡ length pairs')
     (pairs-same : (k : ℕ) → k < start → slice_get pairs' k ≡ slice_get pairs k) (same : (k : ℕ) → k < start → slice_get lacking' k ≡ slice_get lacking k)
     (free : AreFree pairs' lacking' places') (room : length places' + blocked lacking' ≤ capacity') where
   abbrev next : History
   next = record { portfolio = history.portfolio; quotas = history.quotas; marks = marks }
 
-  pub ready-asked : ((k : ℕ) (pair : Pair) → start ≤ k → slice_get pairs' k ≡ Some pair → slice_get lacking' k ≡ Some (lacking_of next (contract_at next pair.rank) pair.version)) → IsReady next pairs' lacking' places' capacity' parents
+  pub ready-asked : ((k : ℕ) (pair : Pair) → start ≤ k → slice_get pairs' k ≡ Some pair → slice_get lacking' k ≡ Some (lacking_of next (contract_at next pair.rank) pair.version)) → AreReadyLists next pairs' lacking' places' capacity' parents
   ready-asked counted = record {
     turned = is.turned;
     count = count;
@@ -185,7 +183,7 @@ module _ (pairs pairs' : List Pair) (v r : ℕ) (p : Progress) (sorted : AreSort
     | inr other ↦ (other.0, other.1)
   ]
 
-module _ (history : History) (pairs : List Pair) (lacking places : List ℕ) (capacity : ℕ) (parents : List (Vec ℕ Global)) (is : IsReady history pairs lacking places capacity parents)
+module _ (history : History) (pairs : List Pair) (lacking places : List ℕ) (capacity : ℕ) (parents : List (Vec ℕ Global)) (is : AreReadyLists history pairs lacking places capacity parents)
     (v r : ℕ) (p : Progress) (ended : is_waiting p ≡ false) (pairs' : List Pair) (sorted : AreSorted pairs) (put : IsPut pairs v r p pairs') where
   put-length : length pairs' ≡ length pairs
   put-length = ap length put.is ∙ length-set pairs put.place (record { version = v; rank = r; progress = p })
@@ -213,7 +211,7 @@ module _ (history : History) (pairs : List Pair) (lacking places : List ℕ) (ca
           ];
     }
 
-    ready-taken : IsReady history pairs' lacking places' capacity parents
+    ready-taken : AreReadyLists history pairs' lacking places' capacity parents
     ready-taken = record {
       turned = is.turned;
       count = is.count ∙ sym put-length;
@@ -222,7 +220,7 @@ module _ (history : History) (pairs : List Pair) (lacking places : List ℕ) (ca
       room = omega (arith, is.room, ap length taken, length-take-le (length places - 1) places (omega arith));
     }
 
-    pub ready-claimed : (m : Mark) (marks : List Mark) → marks ≡ history.marks ++ m ∷ [] → ((d w : ℕ) → is_finish_of d w m ≡ false) → IsReady (record { portfolio = history.portfolio; quotas = history.quotas; marks = marks }) pairs' lacking places' capacity parents
+    pub ready-claimed : (m : Mark) (marks : List Mark) → marks ≡ history.marks ++ m ∷ [] → ((d w : ℕ) → is_finish_of d w m ≡ false) → AreReadyLists (record { portfolio = history.portfolio; quotas = history.quotas; marks = marks }) pairs' lacking places' capacity parents
     ready-claimed m marks marked none = ready-quiet history pairs' lacking places' capacity parents ready-taken m marks marked none
 
   -- ---- what comes back
@@ -330,8 +328,8 @@ module _ (history : History) (pairs : List Pair) (lacking places : List ℕ) (ca
                   omega (arith, sum, was, owed, lacking-else d pair.version other)
             ]
 
-        pub ready-finished : IsReady (record { portfolio = history.portfolio; quotas = history.quotas; marks = marks }) pairs' lacking' places' capacity' parents
-        ready-finished = subst (λ (ms : List Mark). IsReady (record { portfolio = history.portfolio; quotas = history.quotas; marks = ms }) pairs' lacking' places' capacity' parents) (sym marked) (record {
+        pub ready-finished : AreReadyLists (record { portfolio = history.portfolio; quotas = history.quotas; marks = marks }) pairs' lacking' places' capacity' parents
+        ready-finished = subst (λ (ms : List Mark). AreReadyLists (record { portfolio = history.portfolio; quotas = history.quotas; marks = ms }) pairs' lacking' places' capacity' parents) (sym marked) (record {
           turned = is.turned;
           count = count;
           counted = after-counted;
@@ -342,7 +340,7 @@ module _ (history : History) (pairs : List Pair) (lacking places : List ℕ) (ca
 -- ---- what is next is the last
 
 module _ (history : History) (kept : Keeping) (b : IsBoard history kept)
-    (lacking places : List ℕ) (capacity : ℕ) (parents : List (Vec ℕ Global)) (is : IsReady history kept.pairs lacking places capacity parents) (going : kept.given_up ≡ false) where
+    (lacking places : List ℕ) (capacity : ℕ) (parents : List (Vec ℕ Global)) (is : AreReadyLists history kept.pairs lacking places capacity parents) (going : kept.given_up ≡ false) where
   pub last-next : (c v r place : ℕ) (pair : Pair) → IsNext history c v → slice_get history.portfolio.order r ≡ Some c → slice_get kept.pairs place ≡ Some pair → pair.version ≡ v → pair.rank ≡ r → slice_get places (length places - 1) ≡ Some place
   last-next c v r place pair next ranked at version rank =
       elim (cases_eq listed.0 last) [
@@ -418,9 +416,9 @@ module _ (history : History) (kept : Keeping) (b : IsBoard history kept)
 
 -- ---- runs that are dropped
 
-module _ (history : History) (pairs : List Pair) (lacking places : List ℕ) (capacity : ℕ) (parents : List (Vec ℕ Global)) (is : IsReady history pairs lacking places capacity parents)
+module _ (history : History) (pairs : List Pair) (lacking places : List ℕ) (capacity : ℕ) (parents : List (Vec ℕ Global)) (is : AreReadyLists history pairs lacking places capacity parents)
     (callers : List Caller) (version : ℕ) (new : List Pair) (drops : Drops pairs callers version new) where
-  pub ready-dropped : IsReady history new lacking places capacity parents
+  pub ready-dropped : AreReadyLists history new lacking places capacity parents
   ready-dropped = record {
     turned = is.turned;
     count = is.count ∙ sym drops.count;
@@ -442,7 +440,7 @@ module _ (history : History) (pairs : List Pair) (lacking places : List ℕ) (ca
 -- ---- nothing yet
 
 pub ready-fresh : (portfolio : Accepted) (quotas : List ℕ) (capacity : ℕ) (parents : List (Vec ℕ Global)) → AreParents portfolio.contracts.children (child_lists parents)
-    → IsReady (record { portfolio = portfolio; quotas = quotas; marks = [] }) [] [] [] capacity parents
+    → AreReadyLists (record { portfolio = portfolio; quotas = quotas; marks = [] }) [] [] [] capacity parents
 ready-fresh portfolio quotas capacity parents turned = record {
   turned = turned;
   count = refl;
@@ -453,7 +451,7 @@ ready-fresh portfolio quotas capacity parents turned = record {
 
 -- ---- more room
 
-pub ready-room : (history : History) (pairs : List Pair) (lacking places : List ℕ) (capacity : ℕ) (parents : List (Vec ℕ Global)) (is : IsReady history pairs lacking places capacity parents) (more : ℕ) → capacity ≤ more → IsReady history pairs lacking places more parents
+pub ready-room : (history : History) (pairs : List Pair) (lacking places : List ℕ) (capacity : ℕ) (parents : List (Vec ℕ Global)) (is : AreReadyLists history pairs lacking places capacity parents) (more : ℕ) → capacity ≤ more → AreReadyLists history pairs lacking places more parents
 ready-room history pairs lacking places capacity parents is more le = record {
   turned = is.turned;
   count = is.count;
@@ -465,7 +463,7 @@ ready-room history pairs lacking places capacity parents is more le = record {
 -- ---- as it is read
 
 module _ (history : History) (kept : Keeping) (b : IsBoard history kept)
-    (lacking places : List ℕ) (capacity : ℕ) (parents : List (Vec ℕ Global)) (is : IsReady history kept.pairs lacking places capacity parents) where
+    (lacking places : List ℕ) (capacity : ℕ) (parents : List (Vec ℕ Global)) (is : AreReadyLists history kept.pairs lacking places capacity parents) where
   pub next-told : (read ranks : List ℕ) (place : ℕ) (pair : Pair) → read ≡ places → Some place ≡ slice_get read (length read - 1) → slice_get kept.pairs place ≡ Some pair → ranks ≡ history.portfolio.order → kept.given_up ≡ false → IsNext history (slice_index_or ranks pair.rank 0) pair.version
   next-told read ranks place pair same last at ordered going =
       let here : slice_get places (length places - 1) ≡ Some place = subst (λ (xs : List ℕ). slice_get xs (length xs - 1) ≡ Some place) same (sym last) in

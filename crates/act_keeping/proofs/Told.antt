@@ -9,7 +9,7 @@ use Rattle.std.proofs.lemmas.Option.{get_or_from_slice_get, slice_get_within}
 use Rattle.act_accepted.specs.Accepted.{Accepted}
 use Rattle.act_refs.specs.Path.{IsChild}
 use Rattle.act_history.specs.History.{History, IsWanted, has_result}
-use Rattle.act_keeping.specs.Kept.{AreSorted, IsAt, IsListed, IsResult, IsThere, Keeps, contract_at, is_done, is_kept}
+use Rattle.act_keeping.specs.Keeping.{AreSorted, IsAt, IsListed, IsResult, IsThere, Keeps, contract_at, is_done, is_kept}
 use Rattle.act_keeping.specs.declared.pair.Pair.{Pair}
 use Rattle.act_keeping.specs.declared.pair.Progress.{Progress}
 use Rattle.act_keeping.specs.declared.pair.Progress.TheVariants.{Waiting, Claimed, Done, Dropped}

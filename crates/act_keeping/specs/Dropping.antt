@@ -2,7 +2,7 @@
 use Rattle.std.specs.Prelude.{◌≡◌, ◌⊎◌, ℕ, ◌<◌, ◌≤◌, true, List, length, Some}
 use Rattle.std.specs.List.{slice_get}
 use Rattle.act_model.specs.declared.asks.Asking.{Asking}
-use Rattle.act_keeping.specs.Kept.{is_done}
+use Rattle.act_keeping.specs.Keeping.{is_done}
 use Rattle.act_keeping.specs.declared.caller.Caller.{Caller}
 use Rattle.act_keeping.specs.declared.pair.Pair.{Pair}
 use Rattle.act_keeping.specs.declared.pair.Progress.TheVariants.{Dropped}

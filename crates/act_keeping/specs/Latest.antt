@@ -11,9 +11,9 @@ use Rattle.act_profile.specs.Kept.{KeptRows, kept_of}
 use Rattle.act_profile.specs.Reads.{cut_of}
 use Rattle.act_profile.specs.Run.{Contracts, run_of}
 use Rattle.act_history.specs.History.{History, entries_of, version_of}
-use Rattle.act_keeping.specs.Kept.{IsResult}
+use Rattle.act_keeping.specs.Keeping.{IsResult}
 use Rattle.act_keeping.specs.declared.latest.Cached.{Cached}
-use Rattle.act_keeping.specs.declared.latest.Latest.{Latest}
+use Rattle.act_keeping.specs.declared.latest.LatestResult.{LatestResult}
 use Rattle.act_history.specs.declared.mark.Mark.{Mark}
 use Rattle.act_history.specs.declared.mark.Mark.TheVariants.{Finish}
 
@@ -60,18 +60,18 @@ cut_for history c v = cut_at history.portfolio.contracts (entries_of history) c 
 -- ---- what the board has of it
 
 -- the latest results of all contracts are those of a history
-pub record AreLatest (history : History) (latest : List (Option Latest)) : Type 0 where
+pub record AreLatest (history : History) (latest : List (Option LatestResult)) : Type 0 where
   pub count : length latest ≡ length history.portfolio.contracts.terms
-  pub versions : (c : ℕ) (one : Option Latest) → slice_get latest c ≡ Some one → option_map (λ (l : Latest). l.version) one ≡ cached_version history c
-  pub results : (c : ℕ) (one : Latest) → slice_get latest c ≡ Some (Some one) → (one.version ≤ version_of history) × IsResult history c one.version (arc_value one.run)
+  pub versions : (c : ℕ) (one : Option LatestResult) → slice_get latest c ≡ Some one → option_map (λ (l : LatestResult). l.version) one ≡ cached_version history c
+  pub results : (c : ℕ) (one : LatestResult) → slice_get latest c ≡ Some (Some one) → (one.version ≤ version_of history) × IsResult history c one.version (arc_value one.run)
 
 -- there are so many places, and no result
-pub record NoneYet (contracts : ℕ) (latest : List (Option Latest)) : Type 0 where
+pub record NoneYet (contracts : ℕ) (latest : List (Option LatestResult)) : Type 0 where
   pub count : length latest ≡ contracts
-  pub each : (c : ℕ) (one : Option Latest) → slice_get latest c ≡ Some one → one ≡ None
+  pub each : (c : ℕ) (one : Option LatestResult) → slice_get latest c ≡ Some one → one ≡ None
 
 -- a latest result is of a later version
-abbrev pub is_later : Option Latest → ℕ → Bool
+abbrev pub is_later : Option LatestResult → ℕ → Bool
 is_later None version = false
 is_later (Some one) version = nat_lt version one.version
 
@@ -86,7 +86,7 @@ abbrev pub kept_rows : Cached → KeptRows
 kept_rows cached = kept_under cached.run cached.cut
 
 -- it is the latest result of a contract, with the cut from the smaller to the greater of its version and another
-abbrev pub IsCached : Contracts → List Obs → ℕ → ℕ → Option Latest → Cached → Type 0
+abbrev pub IsCached : Contracts → List Obs → ℕ → ℕ → Option LatestResult → Cached → Type 0
 IsCached contracts entries c v None cached = (cached.run ≡ None) × (cached.cut ≡ None)
 IsCached contracts entries c v (Some one) cached =
     (run : Arc Stream Global) × (cached.run ≡ Some run) × (arc_value run ≡ arc_value one.run)

@@ -1,5 +1,5 @@
 pub mod Dropping
-pub mod Kept
+pub mod Keeping
 pub mod Latest
 pub mod Ready
 pub mod Tasks

@@ -4,7 +4,7 @@ use Rattle.std.specs.List.{count_by, insert, slice_get}
 use Rattle.std.specs.declared.alloc.Global.{Global}
 use Rattle.act_refs.specs.Path.{child_lists, children_of}
 use Rattle.act_history.specs.History.{History, has_result}
-use Rattle.act_keeping.specs.Kept.{contract_at, is_waiting}
+use Rattle.act_keeping.specs.Keeping.{contract_at, is_waiting}
 use Rattle.act_keeping.specs.declared.pair.Pair.{Pair}
 
 -- how many children of a contract lack a result at a version
@@ -108,7 +108,7 @@ pub record AreParents (children parents : List (List ℕ)) : Type 0 where
   pub times : (c p : ℕ) → c < length children → times p (children_of parents c) ≡ times c (children_of children p)
 
 -- the counts are those of a history for the pairs that wait, and what may be claimed is listed; there is room to list what waits for a result
-pub record IsReady (history : History) (pairs : List Pair) (lacking places : List ℕ) (capacity : ℕ) (parents : List (Vec ℕ Global)) : Type 0 where
+pub record AreReadyLists (history : History) (pairs : List Pair) (lacking places : List ℕ) (capacity : ℕ) (parents : List (Vec ℕ Global)) : Type 0 where
   pub turned : AreParents history.portfolio.contracts.children (child_lists parents)
   pub count : length lacking ≡ length pairs
   pub counted : (k n : ℕ) (pair : Pair) → slice_get pairs k ≡ Some pair → slice_get lacking k ≡ Some n → is_waiting pair.progress ≡ true → n ≡ lacking_of history (contract_at history pair.rank) pair.version

@@ -1,7 +1,7 @@
 -- What is added for an ask.
 use Rattle.std.specs.Prelude.{◌≡◌, ◌⊎◌, ℕ, ◌+◌, ◌-◌, ◌<◌, ◌≤◌, Bool, true, List, length, slice_index_or, Some}
 use Rattle.std.specs.List.{insert, range_with_len, slice_get, sum_by}
-use Rattle.act_keeping.specs.Kept.{AreSorted, Has, IsListed, is_before, owed_for}
+use Rattle.act_keeping.specs.Keeping.{AreSorted, Has, IsListed, is_before, owed_for}
 use Rattle.act_history.specs.Reached.{is_wanted}
 use Rattle.act_keeping.specs.declared.pair.Pair.{Pair}
 use Rattle.act_keeping.specs.declared.pair.Progress.TheVariants.{Waiting}

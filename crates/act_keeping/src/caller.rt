@@ -1,22 +1,13 @@
 //! What a board keeps of a caller.
 ghost use Rattle.std.specs.Prelude.{◌≡◌, ◌+◌, ◌-◌, ◌<◌, ◌≤◌, Some, length, IfErr, IfOk};
 ghost use Rattle.std.specs.List.{list_all, slice_get};
-ghost use Rattle.act_keeping.specs.Kept.{AreNewcomers, ClosesOldest, IsUntouched, Leaves, OpensAsk, Spends};
+ghost use Rattle.act_keeping.specs.Keeping.{AreNewcomers, ClosesOldest, IsUntouched, Leaves, OpensAsk, Spends};
 ghost use Rattle.act_keeping.specs.declared.caller.Caller.{Caller};
 
-use act_model::{Asked, Asking};
+use act_model::{Asked, Asking, MOST_ASKS};
 use act_num::NoMemory;
 use std::alloc::Global;
 use std::collections::VecDeque;
-
-/// The most callers of a board.
-pub const MOST_CALLERS: usize = 16;
-
-/// The most asks of a caller that are open at a time.
-pub const MOST_OPEN: usize = 256;
-
-/// The most asks of a caller.
-pub const MOST_ASKS: u32 = 4_194_304;
 
 /// What a board keeps of a caller.
 #[derive(Drop)]
@@ -31,7 +22,7 @@ pub struct Caller {
     pub open_asks: VecDeque<Asking>,
 }
 
-/// A caller for each quota, who has done nothing yet.
+/// A caller for each quota, who has done nothing yet. NoMemory where memory runs out.
 pub fn callers_of(alloc: Global, quotas: &[u64]) -> Result<Vec<Caller>, NoMemory>
     ensures { IfOk result (λ callers. AreNewcomers quotas.now callers.items) }
 {
@@ -54,7 +45,8 @@ pub fn all_left(callers: &[Caller]) -> bool
     callers.iter().all(|caller| caller.left)
 }
 
-/// Opens an ask of a caller. It answers the ask's number among the caller's.
+/// Opens an ask of a caller. It answers the ask's number among the caller's. NoMemory where memory runs out; what is kept of the
+/// caller stays then.
 pub fn open_ask(
     callers: &mut [Caller],
     caller: u32,

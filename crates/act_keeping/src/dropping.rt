@@ -1,16 +1,20 @@
 //! Runs that nobody can ask for any more.
-ghost use Rattle.std.specs.Prelude.{◌≡◌, ◌≤◌, ◌<◌, ℕ, true};
+ghost use Rattle.std.specs.Prelude.{◌≡◌, ◌≤◌, ◌<◌, ℕ, true, false, Some};
+ghost use Rattle.std.specs.List.{slice_get};
 ghost use Rattle.act_keeping.specs.Dropping.{Drops, IsDropped, IsLeast, NoneOf};
+ghost use Rattle.act_keeping.specs.Keeping.{is_kept};
+ghost use Rattle.act_keeping.specs.declared.pair.Pair.{Pair};
 
 use crate::caller::Caller;
 use crate::pair::{Pair, Progress, is_done};
 use act_model::Asking;
 use std::collections::VecDeque;
 
-/// Drops the runs of pairs, from a place on, as long as these are of versions before a given one and before those of all open asks.
-/// It answers where it stopped.
+/// Drops runs of pairs, from a place on, none but those of versions before a given one that no open ask is of. It answers where it
+/// stopped: from the first place up to there no run is left.
 pub fn drop_runs(pairs: &mut [Pair], from: usize, callers: &[Caller], version: u64) -> usize
-    ensures { Drops pairs.old callers.now version pairs.new }
+    ensures dropped { Drops pairs.old callers.now version pairs.new }
+    ensures gone { (k : ℕ) (pair : Pair) → from ≤ k → k < result → slice_get pairs.new k ≡ Some pair → is_kept pair.progress ≡ false }
 {
     if from >= pairs.len() || !is_before(&pairs[from], version) {
         return from;
@@ -26,7 +30,8 @@ pub fn drop_runs(pairs: &mut [Pair], from: usize, callers: &[Caller], version: u
 
 /// Drops the run of a pair, where it has one.
 fn drop_run(pair: &mut Pair)
-    ensures { IsDropped pair.old pair.new }
+    ensures dropped { IsDropped pair.old pair.new }
+    ensures gone { is_kept pair.new.progress ≡ false }
 {
     if is_done(&pair.progress) {
         pair.progress = Progress::Dropped;

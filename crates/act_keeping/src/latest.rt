@@ -1,5 +1,5 @@
 //! The latest result of each contract, the one at the greatest version, and what its evaluation at another version goes on from.
-ghost use Rattle.std.specs.Prelude.{◌≡◌, ◌≤◌, ◌<◌, false, length, max, min, slice_index_or, slice_set, Some, None, take, true, ◌≤ℤ◌, IfOk, IfSome};
+ghost use Rattle.std.specs.Prelude.{◌≡◌, ℕ, ◌≤◌, ◌<◌, false, length, max, min, slice_index_or, slice_set, Some, None, take, true, ◌≤ℤ◌, IfOk, IfSome};
 ghost use Rattle.std.specs.List.{All};
 ghost use Rattle.std.specs.List.Sorted.{IsStrictlyIncreasing};
 ghost use Rattle.act_cut.specs.Cut.{AreAscending};
@@ -17,7 +17,7 @@ use std::sync::Arc;
 
 /// The latest result of a contract: that at the greatest version.
 #[derive(Drop)]
-pub struct Latest {
+pub struct LatestResult {
     /// Over how many entries of the book it was evaluated.
     pub version: u64,
     /// Its run over them.
@@ -34,8 +34,8 @@ pub struct Cached {
     pub cut: Option<Day>,
 }
 
-/// A place for each contract, without results.
-pub fn none_yet(alloc: Global, contracts: usize) -> Result<Vec<Option<Latest>>, NoMemory>
+/// A place for each contract, without results. NoMemory where memory runs out.
+pub fn none_yet(alloc: Global, contracts: usize) -> Result<Vec<Option<LatestResult>>, NoMemory>
     ensures { IfOk result (λ latest. NoneYet contracts latest.items) }
 {
     let mut latest = Vec::with_capacity(alloc, contracts)?;
@@ -48,7 +48,8 @@ pub fn none_yet(alloc: Global, contracts: usize) -> Result<Vec<Option<Latest>>, 
 /// The number behind the last of ascending numbers, or 0 where there are none.
 pub fn end_of(numbers: &[u32]) -> usize
     requires ascending { IsStrictlyIncreasing numbers.now }
-    ensures { All (λ number. number < result) numbers.now }
+    ensures above { All (λ number. number < result) numbers.now }
+    ensures least { (n : ℕ) → All (λ number. number < n) numbers.now → result ≤ n }
 {
     match numbers.last() {
         Some(last) => *last as usize + 1,
@@ -57,7 +58,7 @@ pub fn end_of(numbers: &[u32]) -> usize
 }
 
 /// Whether a latest result is of a later version.
-fn is_later(latest: &Option<Latest>, version: u64) -> bool
+fn is_later(latest: &Option<LatestResult>, version: u64) -> bool
     ensures { result ≡ is_later latest.now version }
 {
     match latest {
@@ -67,7 +68,12 @@ fn is_later(latest: &Option<Latest>, version: u64) -> bool
 }
 
 /// Takes a result as a contract's latest, unless that is of a later version.
-pub fn put_latest(latest: &mut [Option<Latest>], contract: u32, version: u64, run: Arc<Run, Global>)
+pub fn put_latest(
+    latest: &mut [Option<LatestResult>],
+    contract: u32,
+    version: u64,
+    run: Arc<Run, Global>,
+)
     requires within { contract < length latest.old }
     ensures later { is_later (slice_index_or latest.old contract None) version ≡ true → latest.new ≡ latest.old }
     ensures put { is_later (slice_index_or latest.old contract None) version ≡ false
@@ -78,10 +84,11 @@ pub fn put_latest(latest: &mut [Option<Latest>], contract: u32, version: u64, ru
         drop(run);
         return;
     }
-    latest[place] = Some(Latest { version, run });
+    latest[place] = Some(LatestResult { version, run });
 }
 
-/// The cut from the smaller to the greater of two versions of a book, of which the entries of the second are seen.
+/// The cut from the smaller to the greater of two versions of a book, of which the entries of the second are seen. NoMemory where
+/// memory runs out. The entries stay.
 pub fn cut_between(
     reads: &Reads,
     book: &mut IndexedBook,

@@ -1,7 +1,9 @@
 //! A contract at a version that was asked for, and lists of these by version and then by rank.
-ghost use Rattle.std.specs.Prelude.{◌≡◌, ◌==◌, ◌&&◌, ◌<◌, ◌≤◌, true, false, length, vec_capacity, MatchOption};
-ghost use Rattle.act_keeping.specs.Kept.{AreSorted, HasAt, IsListed, IsPast, IsPut, IsUnderWay, is_before, is_done, is_under_way, is_waiting};
+ghost use Rattle.std.specs.Prelude.{◌≡◌, ◌==◌, ◌&&◌, ◌<◌, ◌≤◌, true, false, length, vec_capacity, MatchOption, Some};
+ghost use Rattle.std.specs.List.{slice_get};
+ghost use Rattle.act_keeping.specs.Keeping.{AreSorted, HasAt, IsListed, IsPast, IsPut, IsUnderWay, is_before, is_done, is_under_way, is_waiting};
 ghost use Rattle.act_keeping.specs.Wanting.{IsAdded, IsPlaceOf};
+ghost use Rattle.act_keeping.specs.declared.pair.Pair.{Pair};
 
 use act_model::Run;
 use std::alloc::Global;
@@ -32,14 +34,14 @@ pub enum Progress {
 }
 
 /// Whether it wasn't claimed yet.
-pub fn is_waiting(progress: &Progress) -> bool
+pub(crate) fn is_waiting(progress: &Progress) -> bool
     ensures { result ≡ is_waiting progress.now }
 {
     matches!(progress, Progress::Waiting)
 }
 
 /// Whether it was claimed and hasn't come back.
-pub fn is_under_way(progress: &Progress) -> bool
+fn is_under_way(progress: &Progress) -> bool
     ensures { result ≡ is_under_way progress.now }
 {
     matches!(progress, Progress::Claimed)
@@ -153,10 +155,11 @@ pub fn put_progress(pairs: &mut [Pair], version: u64, rank: u32, progress: Progr
     }
 }
 
-/// The place of the first pair that waits, from a place on before which none does.
+/// The place of the first pair that waits, from a place on before which none does; where none waits, a place behind all pairs.
 pub fn first_waiting(pairs: &[Pair], front: usize) -> usize
     requires past { IsPast pairs.now front }
     ensures past { IsPast pairs.now result }
+    ensures waits { (pair : Pair) → slice_get pairs.now result ≡ Some pair → is_waiting pair.progress ≡ true }
 {
     let mut place = front;
     while place < pairs.len() && !is_waiting(&pairs[place].progress) {

@@ -7,7 +7,7 @@ ghost use Rattle.act_history.specs.Reached.{is_wanted};
 use act_num::NoMemory;
 use std::alloc::Global;
 
-/// So many contracts, none of which is marked.
+/// So many contracts, none of which is marked. NoMemory where memory runs out.
 pub fn none_marked(alloc: Global, count: usize) -> Result<Vec<bool>, NoMemory>
     ensures { IfOk result (λ marked. marked.items ≡ replicate count false) }
 {

@@ -1,7 +1,7 @@
 //! Which pairs may be claimed.
 ghost use Rattle.std.specs.Prelude.{◌≡◌, ℕ, suc, true, false, ◌+◌, ◌<◌, ◌≤◌, [], Some, length, vec_capacity, OnOk};
 ghost use Rattle.std.specs.List.{slice_get};
-ghost use Rattle.act_keeping.specs.Kept.{AreSorted, IsPast};
+ghost use Rattle.act_keeping.specs.Keeping.{AreSorted, IsPast};
 ghost use Rattle.act_keeping.specs.Ready.{AreDescending, AreFree, IsFree, IsNoted, IsPlaced, IsRanked, Lowers, MayLower, blocked};
 
 use crate::pair::{Pair, find, is_waiting};
@@ -29,7 +29,8 @@ pub fn nothing_ready(alloc: Global) -> Ready
     }
 }
 
-/// Makes room for the counts of so many pairs, and for listing all of them.
+/// Makes room for the counts of so many pairs, and for listing all of them. NoMemory where memory runs out. What is counted and
+/// listed stays.
 pub fn make_room_for_pairs(ready: &mut Ready, pairs: usize) -> Result<(), NoMemory>
     ensures lacking { ready.new.lacking.items ≡ ready.old.lacking.items }
     ensures places { ready.new.places.items ≡ ready.old.places.items }

@@ -7,7 +7,7 @@ ghost use Rattle.act_keeping.specs.Ready.{AddsTimes};
 use act_num::NoMemory;
 use std::alloc::Global;
 
-/// So many empty lists.
+/// So many empty lists. NoMemory where memory runs out.
 pub fn no_lists(alloc: Global, count: usize) -> Result<Vec<Vec<u32>>, NoMemory>
     ensures count { IfOk result (λ lists. length lists.items ≡ count) }
     ensures empty { IfOk result (λ lists. All (λ list. length list.items ≡ 0) lists.items) }
@@ -19,7 +19,8 @@ pub fn no_lists(alloc: Global, count: usize) -> Result<Vec<Vec<u32>>, NoMemory>
     Ok(lists)
 }
 
-/// Adds a contract to the parents of each of its children.
+/// Adds a contract to the parents of each of its children. NoMemory where memory runs out; it may have been added for some of
+/// them then.
 pub fn add_parent(parents: &mut [Vec<u32>], children: &[u32], parent: u32) -> Result<(), NoMemory>
     requires { All (λ child. child < length parents.old) children.now }
     ensures { OnOk result (AddsTimes (child_lists parents.old) (child_lists parents.new) children.now parent) }

@@ -11,7 +11,8 @@ use act_model::{Asked, Item, MOST_ENTRIES, Obs, Step};
 use act_num::NoMemory;
 use std::slice;
 
-/// Makes room for the marks that are owed and some more.
+/// Makes room for the marks that are owed and some more. NoMemory where memory runs out, or they are too many to be counted. The
+/// marks stay.
 pub fn make_room(marks: &mut Vec<Mark>, owing: usize, more: usize) -> Result<(), NoMemory>
     ensures marks { marks.new.items ≡ marks.old.items }
     ensures kept { vec_capacity marks.old ≤ vec_capacity marks.new }
@@ -23,7 +24,8 @@ pub fn make_room(marks: &mut Vec<Mark>, owing: usize, more: usize) -> Result<(),
     }
 }
 
-/// Makes room for the marks that are owed and some more, and for one step.
+/// Makes room for the marks that are owed and some more, and for one step. NoMemory as in [`make_room`]. The marks and the steps
+/// stay.
 pub fn make_room_for_step(
     marks: &mut Vec<Mark>,
     items: &mut Vec<Item>,
@@ -40,7 +42,8 @@ pub fn make_room_for_step(
     Ok(items.reserve(1)?)
 }
 
-/// Appends an entry to a book that has room for it. It answers how many there are then.
+/// Appends an entry to a book that has room for it. It answers how many there are then. NoMemory where memory runs out; the
+/// entries stay then.
 pub fn append_entry(book: &mut IndexedBook, entry: &Obs) -> Result<u64, NoMemory>
     requires entry { is_entry entry.now ≡ true }
     requires room { length book.old < MOST_ENTRIES }

@@ -5,6 +5,14 @@ use Rattle.std.specs.Prelude.{ℕ}
 abbrev pub most_bytes : ℕ
 most_bytes = 67_108_864
 
+-- the most asks of a caller
+abbrev pub most_asks : ℕ
+most_asks = 4_194_304
+
+-- the most callers of a board, each with a script
+abbrev pub most_callers : ℕ
+most_callers = 16
+
 -- the most contracts of a portfolio
 abbrev pub most_contracts : ℕ
 most_contracts = 4096
@@ -20,3 +28,11 @@ most_entries = 1_048_576
 -- the most names of one sort, as of contracts
 abbrev pub most_names : ℕ
 most_names = 134_217_727
+
+-- the most asks of a caller that are open at a time
+abbrev pub most_open : ℕ
+most_open = 256
+
+-- the most workers of a desk
+abbrev pub most_workers : ℕ
+most_workers = 64

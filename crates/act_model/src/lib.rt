@@ -25,7 +25,10 @@ pub use choice::{
 };
 pub use event::{Event, EventType, Source};
 pub use journal::{Answer, Asked, Item, Line, Step};
-pub use limits::{MOST_BYTES, MOST_CONTRACTS, MOST_DATES, MOST_ENTRIES, MOST_NAMES};
+pub use limits::{
+    MOST_ASKS, MOST_BYTES, MOST_CALLERS, MOST_CONTRACTS, MOST_DATES, MOST_ENTRIES, MOST_NAMES,
+    MOST_OPEN, MOST_WORKERS,
+};
 pub use name::{is_currency, is_name};
 pub use names::Names;
 pub use observed::{Listed, Obs, ObsKind, Observed, observed_is_last_of_latest_day};

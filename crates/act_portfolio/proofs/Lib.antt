@@ -1,6 +1,6 @@
 pub mod Accepting
 pub mod Finished
 pub mod Fitted
-pub mod Kept
 pub mod Listed
+pub mod PerContract
 pub mod Unrolling

@@ -113,6 +113,23 @@ impl Portfolio {
         &self.order
     }
 
+    /// How the contracts are linked: each has children, which are contracts; the order is theirs, children first; no chain of
+    /// references is longer than 16 contracts; what terms hold of other contracts is so; and not more have a name than there
+    /// are. It does nothing, and stands where a proof needs this.
+    #[inline(always)]
+    pub fn contracts_are_linked(&self)
+        ensures ordered { order_of self.now.contracts.children ≡ Ok self.now.order }
+        ensures numbered { All (λ contract. contract < length self.now.contracts.terms) self.now.order }
+        ensures exist { (parent child : ℕ) → IsChild self.now.contracts.children parent child → child < length self.now.contracts.terms }
+        ensures count { length self.now.contracts.children ≡ length self.now.contracts.terms }
+        ensures within_depth { (c : ℕ) → c < length self.now.contracts.terms → IsWithinDepth deepest self.now.contracts c }
+        ensures linked { IsLinked self.now.contracts }
+        ensures named { length self.now.names.contracts ≤ length self.now.contracts.terms }
+    {
+        // What is true of a portfolio is known where one of its fields is looked at.
+        let _ = &self.order;
+    }
+
     /// The place of a contract in the order, from 0.
     pub fn rank(&self, contract: u32) -> u32
         requires contract { contract < length self.now.contracts.terms }
@@ -172,7 +189,7 @@ impl Portfolio {
     }
 
     /// A copy of the names of the contracts, and of what they name.
-    pub fn into_names(&self) -> Result<Names, NoMemory>
+    pub fn to_names(&self) -> Result<Names, NoMemory>
         ensures names { IfOk result (λ names. names ≡ self.now.names) }
         ensures few_contracts { IfOk result (λ names. length names.contracts < 2 ^ 27) }
         ensures few_codes { IfOk result (λ names. length names.codes < 2 ^ 27) }

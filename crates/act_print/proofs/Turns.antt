@@ -11,9 +11,9 @@ use Rattle.act_model.specs.declared.journal.Item.{Item}
 use Rattle.act_print.specs.Giving.{Fails, GivesItem}
 use Rattle.act_print.specs.LineWords.{item_of_line}
 use Rattle.act_print.specs.declared.printed.PrintedRow.{PrintedRow}
-use Rattle.act_print.specs.declared.stop.Stop.{Stop}
+use Rattle.act_print.specs.declared.line_fault.LineFault.{LineFault}
 use Rattle.act_model.proofs.Lists.{next_of}
-use Rattle.act_print.specs.declared.stop.Stop.TheVariants.{Wrong, NoMemory}
+use Rattle.act_print.specs.declared.line_fault.LineFault.TheVariants.{Wrong, NoMemory}
 
 -- what was read before, and what is still read
 abbrev pub with_front : {A : Type 0} → List A → Reading (List A) → Reading (List A)
@@ -39,7 +39,7 @@ module _ {A : Type 0} (read : Reading A) (others : Lines → Reading (List A)) (
       ap (λ (t : List A). with_front t (others after)) is ∙ sym (fronts front x (others after)) ∙ sym (ap (with_front front) first) ∙ so_far
 
   -- it stops
-  pub ends : (stop : Stop) (left : Lines) → Fails stop left read → Fails stop left total
+  pub ends : (stop : LineFault) (left : Lines) → Fails stop left read → Fails stop left total
   ends Wrong left e =
       let first : in_turn read others ≡ Err left = ap (λ r. r >>= λ x. others x.1 >>= λ y. Ok (x.0 ∷ y.0, y.1)) e in
       sym so_far ∙ ap (with_front front) first
@@ -60,7 +60,7 @@ module _ (names : NameLists) (front : List Item) (count i : ℕ) (lines : Lines)
   items_more new after within given =
       more (line_by (item_of_line names) lines) (items_at names (count - (i + 1))) front total (by_turn within) given.0 after new given.1 given.2
 
-  pub items_end : (stop : Stop) (left : Lines) → i < count → Fails stop left (line_by (item_of_line names) lines) → Fails stop left total
+  pub items_end : (stop : LineFault) (left : Lines) → i < count → Fails stop left (line_by (item_of_line names) lines) → Fails stop left total
   items_end stop left within e =
       ends (line_by (item_of_line names) lines) (items_at names (count - (i + 1))) front total (by_turn within) stop left e
 
@@ -79,7 +79,7 @@ module _ (names : NameLists) (front : List Block) (n end : ℕ) (lines : Lines) 
   blocks_more new block after within e is =
       more (block_at names n lines) (blocks_at names (range_with_len (n + 1) (end - (n + 1)))) front total (block_turn within) block after new e is
 
-  pub blocks_end : (stop : Stop) (left : Lines) → n < end → Fails stop left (block_at names n lines) → Fails stop left total
+  pub blocks_end : (stop : LineFault) (left : Lines) → n < end → Fails stop left (block_at names n lines) → Fails stop left total
   blocks_end stop left within e =
       ends (block_at names n lines) (blocks_at names (range_with_len (n + 1) (end - (n + 1)))) front total (block_turn within) stop left e
 
@@ -98,7 +98,7 @@ module _ (names : NameLists) (front : List Response) (asks : List Asking) (i : �
   answers_more ask new answer after e is within at =
       more (answer_at names ask lines) (answers_at names (drop (i + 1) asks)) front total (answer_turn ask within at) answer after new e is
 
-  pub answers_end : (ask : Asking) (stop : Stop) (left : Lines) → Fails stop left (answer_at names ask lines) → i < length asks → ask ≡ get_or asks i ask → Fails stop left total
+  pub answers_end : (ask : Asking) (stop : LineFault) (left : Lines) → Fails stop left (answer_at names ask lines) → i < length asks → ask ≡ get_or asks i ask → Fails stop left total
   answers_end ask stop left e within at =
       ends (answer_at names ask lines) (answers_at names (drop (i + 1) asks)) front total (answer_turn ask within at) stop left e
 

@@ -5,8 +5,8 @@ ghost use Rattle.act_print.specs.Reading.{items_at};
 ghost use Rattle.act_print.specs.LineWords.{ask_words, count_of_line, credit_word, event_words, happening_words, item_of_line, rate_words, step_of_words};
 ghost use Rattle.act_print.specs.Words.{number_word};
 
+use crate::line_fault::LineFault;
 use crate::reader::Reader;
-use crate::stop::Stop;
 use crate::words::{caller_word, code_at, contract_word, count_word, day_at, number_word, word_at};
 use act_model::{Asked, Item, Names, Obs, ObsKind, Step};
 use act_num::Fixed;
@@ -31,7 +31,7 @@ pub(crate) fn read_items(
     alloc: Global,
     names: &Names,
     count: u64,
-) -> Result<Vec<Item>, Stop>
+) -> Result<Vec<Item>, LineFault>
     ensures { Gives (λ items. items.items) result reader.new (items_at names.now count reader.old) }
 {
     let mut items = Vec::new(alloc);

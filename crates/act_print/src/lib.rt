@@ -5,12 +5,12 @@ mod fault;
 mod heads;
 mod item;
 mod items;
+mod line_fault;
 mod lines;
 mod printed;
 mod read;
 mod reader;
 mod rows;
-mod stop;
 mod transcript;
 mod words;
 

@@ -7,10 +7,10 @@ ghost use Rattle.act_print.specs.Giving.{BeginsWithJournal, Finishes, PointsAt};
 ghost use Rattle.act_print.specs.Printed.{Transcript};
 
 use crate::TextFault;
+use crate::line_fault::LineFault;
 use crate::lines::{count_lines, is_ended};
 use crate::printed::Printed;
 use crate::reader::Reader;
-use crate::stop::Stop;
 use crate::transcript::count_contracts;
 use act_model::{Item, Names};
 use act_num::NoMemory;
@@ -35,8 +35,8 @@ pub fn read_text(alloc: Global, names: &Names, bytes: &[u8]) -> Result<Printed, 
     let mut reader = Reader::new(bytes);
     match reader.transcript(alloc, names, contracts) {
         Ok(printed) => finish(bytes, &reader, printed),
-        Err(Stop::Wrong) => Err(fault_at(bytes, &reader)),
-        Err(Stop::NoMemory) => Err(TextFault::NoMemory),
+        Err(LineFault::Wrong) => Err(fault_at(bytes, &reader)),
+        Err(LineFault::NoMemory) => Err(TextFault::NoMemory),
     }
 }
 
@@ -52,8 +52,8 @@ pub fn read_journal(
     let mut reader = Reader::new(bytes);
     match reader.journal(alloc, names) {
         Ok(items) => Ok(Some(items)),
-        Err(Stop::Wrong) => Ok(None),
-        Err(Stop::NoMemory) => Err(NoMemory),
+        Err(LineFault::Wrong) => Ok(None),
+        Err(LineFault::NoMemory) => Err(NoMemory),
     }
 }
 

@@ -7,10 +7,10 @@ ghost use Rattle.act_print.specs.LineWords.{count_of_line};
 ghost use Rattle.act_print.specs.Reading.{is_line, line_by};
 
 use crate::items::{count_of_line, item_of_line};
+use crate::line_fault::LineFault;
 use crate::lines::{count_lines, first_line};
 use crate::printed::PrintedRow;
 use crate::rows::{close_of_line, row_of_line};
-use crate::stop::Stop;
 use act_model::{Close, Item, Names};
 use std::marker::Model;
 
@@ -62,47 +62,51 @@ impl<'a> Reader<'a> {
     }
 
     /// The line above a journal.
-    pub(crate) fn count(&mut self) -> Result<u64, Stop>
+    pub(crate) fn count(&mut self) -> Result<u64, LineFault>
         ensures { Gives (λ n. n) result self.new (line_by count_of_line self.old) }
     {
         let Some((line, behind)) = first_line(self.rest) else {
-            return Err(Stop::Wrong);
+            return Err(LineFault::Wrong);
         };
         let Some(count) = count_of_line(line) else {
-            return Err(Stop::Wrong);
+            return Err(LineFault::Wrong);
         };
         self.rest = behind;
         Ok(count)
     }
 
     /// Adds the next item to others. Where it stops, they are as before.
-    pub(crate) fn push_item(&mut self, names: &Names, items: &mut Vec<Item>) -> Result<(), Stop>
+    pub(crate) fn push_item(
+        &mut self,
+        names: &Names,
+        items: &mut Vec<Item>,
+    ) -> Result<(), LineFault>
         ensures { GivesItem names.now items.old.items self.old result items.new.items self.new }
     {
         let Some((line, behind)) = first_line(self.rest) else {
-            return Err(Stop::Wrong);
+            return Err(LineFault::Wrong);
         };
         let Some(Item { caller, step }) = item_of_line(names, line) else {
-            return Err(Stop::Wrong);
+            return Err(LineFault::Wrong);
         };
         match items.push(Item { caller, step }) {
             Ok(()) => {
                 self.rest = behind;
                 Ok(())
             }
-            Err(_) => Err(Stop::NoMemory),
+            Err(_) => Err(LineFault::NoMemory),
         }
     }
 
     /// The line that is given.
-    pub(crate) fn expect(&mut self, expected: &[u8]) -> Result<(), Stop>
+    pub(crate) fn expect(&mut self, expected: &[u8]) -> Result<(), LineFault>
         ensures { Gives (λ u. u) result self.new (line_by (is_line (expected.now ++ codes "\n")) self.old) }
     {
         let Some((line, behind)) = first_line(self.rest) else {
-            return Err(Stop::Wrong);
+            return Err(LineFault::Wrong);
         };
         if !is_same(line, expected) {
-            return Err(Stop::Wrong);
+            return Err(LineFault::Wrong);
         }
         self.rest = behind;
         Ok(())
@@ -110,18 +114,18 @@ impl<'a> Reader<'a> {
 
     /// A row, or how the rows close.
     #[tactic(auto, unfolding(crate::specs::Reading::rows_at))]
-    pub(crate) fn next_row(&mut self, names: &Names) -> Result<Next, Stop>
+    pub(crate) fn next_row(&mut self, names: &Names) -> Result<Next, LineFault>
         ensures { GivesNext names.now self.old result self.new }
     {
         let Some((line, behind)) = first_line(self.rest) else {
-            return Err(Stop::Wrong);
+            return Err(LineFault::Wrong);
         };
         if let Some(close) = close_of_line(names, line) {
             self.rest = behind;
             return Ok(Next::Last(close));
         }
         let Some(row) = row_of_line(names, line) else {
-            return Err(Stop::Wrong);
+            return Err(LineFault::Wrong);
         };
         self.rest = behind;
         Ok(Next::Row(row))

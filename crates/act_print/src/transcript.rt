@@ -8,9 +8,9 @@ ghost use Rattle.act_model.specs.Journal.{contracts_of};
 
 use crate::heads::{answer_line, answers_line, block_line};
 use crate::items::read_items;
+use crate::line_fault::LineFault;
 use crate::printed::{Printed, PrintedAnswer, PrintedBlock, PrintedRow};
 use crate::reader::{Next, Reader};
-use crate::stop::Stop;
 use act_model::{Asked, Asking, Close, Item, Names, asks_of};
 use act_num::NoMemory;
 use std::alloc::Global;
@@ -31,7 +31,7 @@ pub(crate) fn count_contracts(names: &Names) -> Result<u32, NoMemory>
 impl<'a> Reader<'a> {
     /// A journal.
     #[tactic(auto, unfolding(crate::specs::Reading::journal_at))]
-    pub(crate) fn journal(&mut self, alloc: Global, names: &Names) -> Result<Vec<Item>, Stop>
+    pub(crate) fn journal(&mut self, alloc: Global, names: &Names) -> Result<Vec<Item>, LineFault>
         ensures { Gives (λ items. items.items) result self.new (journal_at names.now self.old) }
     {
         let count = self.count()?;
@@ -39,7 +39,7 @@ impl<'a> Reader<'a> {
     }
 
     /// Rows, and how they close.
-    fn rows(&mut self, alloc: Global, names: &Names) -> Result<(Vec<PrintedRow>, Close), Stop>
+    fn rows(&mut self, alloc: Global, names: &Names) -> Result<(Vec<PrintedRow>, Close), LineFault>
         ensures { Gives (λ rows. (rows.0.items, rows.1)) result self.new (rows_at names.now self.old) }
     {
         let mut rows = Vec::new(alloc);
@@ -53,7 +53,12 @@ impl<'a> Reader<'a> {
 
     /// The rows of a contract.
     #[tactic(auto, unfolding(crate::specs::Reading::block_at))]
-    fn block(&mut self, alloc: Global, names: &Names, contract: u32) -> Result<PrintedBlock, Stop>
+    fn block(
+        &mut self,
+        alloc: Global,
+        names: &Names,
+        contract: u32,
+    ) -> Result<PrintedBlock, LineFault>
         ensures { Gives (λ block. block) result self.new (block_at names.now contract self.old) }
     {
         self.expect(block_line(names, contract).as_bytes())?;
@@ -72,7 +77,7 @@ impl<'a> Reader<'a> {
         names: &Names,
         contracts: u32,
         asked: Asked,
-    ) -> Result<Vec<PrintedBlock>, Stop>
+    ) -> Result<Vec<PrintedBlock>, LineFault>
         requires { contracts ≡ length names.now.contracts }
         ensures { Gives (λ blocks. blocks.items) result self.new
             (blocks_at names.now (contracts_of names.now asked) self.old) }
@@ -89,7 +94,7 @@ impl<'a> Reader<'a> {
         alloc: Global,
         names: &Names,
         end: u32,
-    ) -> Result<Vec<PrintedBlock>, Stop>
+    ) -> Result<Vec<PrintedBlock>, LineFault>
         ensures { Gives (λ blocks. blocks.items) result self.new
             (blocks_at names.now (range_with_len 0 end) self.old) }
     {
@@ -108,7 +113,7 @@ impl<'a> Reader<'a> {
         alloc: Global,
         names: &Names,
         contract: u32,
-    ) -> Result<Vec<PrintedBlock>, Stop>
+    ) -> Result<Vec<PrintedBlock>, LineFault>
         ensures { Gives (λ blocks. blocks.items) result self.new
             (blocks_at names.now (contract ∷ []) self.old) }
     {
@@ -126,7 +131,7 @@ impl<'a> Reader<'a> {
         names: &Names,
         contracts: u32,
         ask: Asking,
-    ) -> Result<PrintedAnswer, Stop>
+    ) -> Result<PrintedAnswer, LineFault>
         requires { contracts ≡ length names.now.contracts }
         ensures { Gives (λ answer. answer) result self.new (answer_at names.now ask self.old) }
     {
@@ -148,7 +153,7 @@ impl<'a> Reader<'a> {
         names: &Names,
         contracts: u32,
         asks: &[Asking],
-    ) -> Result<Vec<PrintedAnswer>, Stop>
+    ) -> Result<Vec<PrintedAnswer>, LineFault>
         requires { contracts ≡ length names.now.contracts }
         ensures { Gives (λ answers. answers.items) result self.new (answers_at names.now asks.now self.old) }
     {
@@ -168,7 +173,7 @@ impl<'a> Reader<'a> {
         names: &Names,
         contracts: u32,
         items: &[Item],
-    ) -> Result<Vec<PrintedAnswer>, Stop>
+    ) -> Result<Vec<PrintedAnswer>, LineFault>
         requires contracts { contracts ≡ length names.now.contracts }
         requires few { length items.now < 2 ^ 32 - 1 }
         ensures { Gives (λ answers. answers.items) result self.new (replies_at names.now items.now self.old) }
@@ -185,7 +190,7 @@ impl<'a> Reader<'a> {
         alloc: Global,
         names: &Names,
         contracts: u32,
-    ) -> Result<Printed, Stop>
+    ) -> Result<Printed, LineFault>
         requires contracts { contracts ≡ length names.now.contracts }
         requires few { length self.old < 2 ^ 32 - 1 }
         ensures { Gives (λ printed. printed) result self.new (transcript_at names.now self.old) }

@@ -23,7 +23,7 @@ pub struct ContractsRead {
 }
 
 /// The names, the terms and the references of contracts, in their order. What the terms and the references name is numbered
-/// among the names.
+/// among the names. Refused by the first term that is, with a number from 11 to 15; NoMemory where memory runs out.
 pub fn read_contracts(
     alloc: Global,
     contracts: &[ContractValue],

@@ -11,7 +11,8 @@ use act_model::{Kind, MOST_CONTRACTS};
 use act_terms::NamedTerms;
 use std::alloc::Global;
 
-/// Nothing where there are no more contracts than there may be, with the shadows.
+/// Nothing where there are no more contracts than there may be, with the shadows. Else refused with number 16, by the first
+/// contract past the limit; NoMemory where there is no memory for the refusal.
 pub fn within_limit(alloc: Global, named: &[NamedTerms]) -> Result<(), PortfolioFault>
     requires few { length named.now ≤ 2 ^ 28 }
     ensures within { OnOk result (first_past 0 0 named.now ≡ None) }

@@ -10,7 +10,8 @@ use act_model::Names;
 use act_terms::NamedTerms;
 use std::alloc::Global;
 
-/// Adds the names of contracts in their order.
+/// Adds the names of contracts in their order. Refused with number 17 by the first whose name an earlier one has; NoMemory where
+/// memory runs out, or the names are full. The names of those before it may have been added then.
 pub fn name_contracts(
     alloc: Global,
     named: &[NamedTerms],

@@ -12,7 +12,8 @@ use act_num::NoMemory;
 use act_refs::{OrderFault, order};
 use std::alloc::Global;
 
-/// The order in which contracts are evaluated, children first, and those of one depth by number.
+/// The order in which contracts are evaluated, children first, and those of one depth by number. Refused with number 22 where
+/// contracts refer to one another in a cycle, and else with 23 where a chain is too long; NoMemory where memory runs out.
 pub fn evaluation_order(
     alloc: Global,
     names: &Names,

@@ -15,7 +15,8 @@ use act_num::NoMemory;
 use act_terms::{ContractValue, NamedTerms, unused_names};
 use std::alloc::Global;
 
-/// The plans of contracts and of shadows behind them.
+/// The plans of contracts and of shadows behind them. Refused with number 18 or 19 by the first that has none; NoMemory where
+/// memory runs out.
 pub fn plans_of(
     alloc: Global,
     named: &[NamedTerms],
@@ -80,7 +81,8 @@ fn next_plan(alloc: Global, terms: &Terms, place: u32) -> Result<Plan, Portfolio
     }
 }
 
-/// For each contract of a list that is read, the names of its object that aren't terms of its type.
+/// For each contract of a list that is read, the names of its object that aren't terms of its type. NoMemory where memory runs
+/// out.
 pub fn unused_lists(
     alloc: Global,
     contracts: &[ContractValue],

@@ -7,15 +7,12 @@ use Rattle.act_model.specs.declared.run.Row.{Row}
 use Rattle.act_model.specs.declared.run.Stop.{Stop}
 use Rattle.act_model.specs.declared.state.State.{State}
 use Rattle.std.proofs.lemmas.List.{drop_all, length-take-le}
-use Rattle.act_model.specs.Run.{EventPlan, Stream}
-use Rattle.act_model.specs.declared.observed.Obs.{Obs}
-use Rattle.act_model.specs.declared.terms.Terms.{Terms}
-use Rattle.act_profile.specs.Events.{events_of}
-use Rattle.act_profile.specs.Run.{row_of, rows_from, run_over, with_row}
+use Rattle.act_model.specs.Run.{Stream}
+use Rattle.act_profile.specs.Run.{row_of, rows_from, with_row}
 use Rattle.act_profile.specs.Steps.{currency_of, start_of, step_of}
-use Rattle.act_profile.specs.Stops.{chosen_close}
-use Rattle.act_run.specs.Limits.{before_limit, closed_by, limit_of}
-use Rattle.act_run.specs.Resuming.{BeginsWith, IsOver, state_behind, state_or_start, with_rows}
+use Rattle.act_run.specs.Inputs.{Inputs, events_given, limit_given, run_given}
+use Rattle.act_run.specs.Limits.{before_limit, closed_by}
+use Rattle.act_run.specs.Resuming.{BeginsWith, NeedsNoMore, state_behind, state_or_start, with_rows}
 use Rattle.act_run.specs.declared.limit.Limit.{Limit}
 use Rattle.act_run.proofs.Limited.{closed_by_rows, rows_over, run_by_rows, run_stopped}
 use Rattle.act_run.proofs.TakenRows.{Step, rows_of_cons, taken_rows}
@@ -82,61 +79,14 @@ go_on step currency first (event ∷ events) (row ∷ rows) begins =
       is = ap (with_row row) more.is ∙ one.is ∙ sym (rows_of_cons step currency first event events);
     }
 
--- ---- the run of a contract
-
--- where it begins with these rows, its events before the limit go on from them
-pub goes_on_before : (terms : Terms) (plan : EventPlan) (entries : List Obs) (children : List Stream) (first : State) (limit : Option Limit) (events : List Event) (rows : List Row) → start_of terms plan ≡ Ok first
-    → limit ≡ limit_of terms.common terms.kind entries (chosen_close children) → events ≡ events_of terms plan entries children → BeginsWith (run_over terms plan entries children) rows
-    → GoesOn (step_of terms plan entries children) (currency_of terms children) first (before_limit limit events) rows
-goes_on_before terms plan entries children first limit events rows starts is are begins =
-    let before = rows_over terms plan entries children first (before_limit limit events) in
-    let same : before.rows ≡ (run_over terms plan entries children).rows =
-    sym (closed_by_rows limit before) ∙ ap (λ (run : Stream). run.rows) (run_by_rows terms plan entries children first limit events starts is are) in
-    go_on (step_of terms plan entries children) (currency_of terms children) first (before_limit limit events) rows (ap (take (length rows)) same ∙ begins.first)
-
--- and what is made from there is the run
-pub resumed_run : (terms : Terms) (plan : EventPlan) (entries : List Obs) (children : List Stream) (first : State) (limit : Option Limit) (events : List Event) (rows : List Row) (count : ℕ)
-    (kept : List Row) (state : State) (before left : List Event) (run : Stream) → start_of terms plan ≡ Ok first
-    → limit ≡ limit_of terms.common terms.kind entries (chosen_close children) → events ≡ events_of terms plan entries children → BeginsWith (run_over terms plan entries children) (take count rows)
-    → count ≤ length rows → kept ≡ take count rows → state ≡ state_behind first (take count rows) → before ≡ before_limit limit events → left ≡ drop count before
-    → run ≡ with_rows kept (rows_over terms plan entries children state left) → closed_by limit run ≡ run_over terms plan entries children
-resumed_run terms plan entries children first limit events rows count kept state before left run starts is are begins within keeps behind ends leaves makes =
-    let goes = goes_on_before terms plan entries children first limit events (take count rows) starts is are begins in
-    let over = rows_over terms plan entries children in
-    let size : length (take count rows) ≡ count = length-take-le count rows within in
-    let all : run ≡ over first (before_limit limit events) =
-    makes ∙ ap (λ (k : List Row). with_rows k (over state left)) keeps
-    ∙ ap (λ (s : State). with_rows (take count rows) (over s left)) behind
-    ∙ ap (λ (es : List Event). with_rows (take count rows) (over (state_behind first (take count rows)) es)) (leaves ∙ ap (drop count) ends ∙ ap (λ (n : ℕ). drop n (before_limit limit events)) (sym size))
-    ∙ goes.is in
-    ap (closed_by limit) all ∙ run_by_rows terms plan entries children first limit events starts is are
-
--- there is an event for each of its first rows
-pub enough_events : (terms : Terms) (plan : EventPlan) (entries : List Obs) (children : List Stream) (first : State) (limit : Option Limit) (events : List Event) (rows : List Row) (count : ℕ) (before : List Event)
-    → start_of terms plan ≡ Ok first → limit ≡ limit_of terms.common terms.kind entries (chosen_close children) → events ≡ events_of terms plan entries children
-    → BeginsWith (run_over terms plan entries children) (take count rows) → count ≤ length rows → before ≡ before_limit limit events → count ≤ length before
-enough_events terms plan entries children first limit events rows count before starts is are begins within ends =
-    let goes = goes_on_before terms plan entries children first limit events (take count rows) starts is are begins in
-    let size : length (take count rows) ≡ count = length-take-le count rows within in
-    subst (λ (es : List Event). count ≤ length es) (sym ends) (subst (λ (n : ℕ). n ≤ length (before_limit limit events)) size goes.within)
+-- ---- a state behind rows
 
 take-none : (n : ℕ) (rows : List Row) → rows ≡ [] → take n rows ≡ []
 take-none zero rows none = refl
 take-none (suc n) [] none = refl
 take-none (suc n) (row ∷ rows) none = absurd (cc)
 
--- a run without a starting state begins with no rows
-no_first : (terms : Terms) (plan : EventPlan) (entries : List Obs) (children : List Stream) (stop : Stop) (rows : List Row) → start_of terms plan ≡ Err stop → BeginsWith (run_over terms plan entries children) rows → rows ≡ []
-no_first terms plan entries children stop rows stops begins =
-    let run = run_over terms plan entries children in
-    let none : run.rows ≡ [] = ap (λ (r : Stream). r.rows) (sym (run_stopped terms plan entries children stop stops)) in
-    sym begins.first ∙ take-none (length rows) run.rows none
-
-pub none_first : (terms : Terms) (plan : EventPlan) (entries : List Obs) (children : List Stream) (stop : Stop) (rows : List Row) (count : ℕ) → start_of terms plan ≡ Err stop → BeginsWith (run_over terms plan entries children) (take count rows) → count ≤ length rows → count ≡ 0
-none_first terms plan entries children stop rows count stops begins within =
-    sym (length-take-le count rows within) ∙ ap length (no_first terms plan entries children stop (take count rows) stops begins)
-
--- so a state behind a run's first rows comes of a starting state
+-- it comes of a starting state
 pub record IsBegun (start : Result State Stop) (rows : List Row) (state : State) : Type 0 where
   pub first : State
   pub starts : start ≡ Ok first
@@ -151,35 +101,89 @@ begun_by (Err stop) (row ∷ rows) state none is =
     let no : row ∷ rows ≡ [] = none stop refl in
     absurd (cc)
 
-pub begun : (terms : Terms) (plan : EventPlan) (entries : List Obs) (children : List Stream) (rows : List Row) (state : State) → BeginsWith (run_over terms plan entries children) rows
-    → state_or_start (start_of terms plan) rows ≡ Ok state → IsBegun (start_of terms plan) rows state
-begun terms plan entries children rows state begins is =
-    begun_by (start_of terms plan) rows state (λ stop stops. no_first terms plan entries children stop rows stops begins) is
+-- ---- the run of a contract
 
--- ---- a run that is over
+-- what it begins with
+abbrev start_given : Inputs → Result State Stop
+start_given inputs = start_of inputs.terms inputs.plan
 
--- so where its rows are all of a run's, and it ended behind them, it is that run
-over_by : (terms : Terms) (plan : EventPlan) (entries : List Obs) (children : List Stream) (run : Stream) (count : ℕ) (limit : Option Limit) (events : List Event) (start : Result State Stop) → start_of terms plan ≡ start
-    → limit ≡ limit_of terms.common terms.kind entries (chosen_close children) → events ≡ events_of terms plan entries children → BeginsWith (run_over terms plan entries children) (take count run.rows)
-    → IsOver run count limit events → run ≡ run_over terms plan entries children
-unfolding rows_from
-over_by terms plan entries children run count limit events (Ok first) starts is are begins over =
-    let over_left = λ (state : State) (rows : List Row) (l : Option Limit) (left : List Event). closed_by l (with_rows rows (rows_over terms plan entries children state left)) in
-    let rows = take count run.rows in
-    let all : rows ≡ run.rows = take_all count run.rows (omega (arith, over.all)) in
-    let state = state_behind first rows in
-    let none : drop count (before_limit None events) ≡ [] = drop_all count events (omega (arith, over.each)) in
-    let same : over_left state rows limit (drop count (before_limit limit events)) ≡ run_over terms plan entries children =
-    resumed_run terms plan entries children first limit events run.rows count rows state (before_limit limit events) (drop count (before_limit limit events)) _ starts is are begins (omega (arith, over.all)) refl refl refl refl refl in
-    let ended : run ≡ over_left state rows None [] =
-    ap (λ (c : Close). record { rows = run.rows; close = c }) over.ended
-    ∙ ap (λ (r : List Row). record { rows = r; close = End }) (sym (append-nil run.rows) ∙ ap (λ (r : List Row). r ++ []) (sym all)) in
-    ended ∙ ap (over_left state rows None) (sym none) ∙ ap (λ (l : Option Limit). over_left state rows l (drop count (before_limit l events))) (sym over.unstopped) ∙ same
-over_by terms plan entries children run count limit events (Err stop) starts is are begins over =
-    let zero_of : count ≡ 0 = none_first terms plan entries children stop run.rows count starts begins (omega (arith, over.all)) in
-    absurd (omega (arith, over.some, zero_of))
+-- what is taken of events from a state on
+abbrev rows_given : Inputs → State → List Event → Stream
+rows_given inputs = rows_over inputs.terms inputs.plan inputs.entries inputs.children
 
-pub over_is : (terms : Terms) (plan : EventPlan) (entries : List Obs) (children : List Stream) (run : Stream) (count : ℕ) (limit : Option Limit) (events : List Event)
-    → limit ≡ limit_of terms.common terms.kind entries (chosen_close children) → events ≡ events_of terms plan entries children → BeginsWith (run_over terms plan entries children) (take count run.rows)
-    → IsOver run count limit events → run ≡ run_over terms plan entries children
-over_is terms plan entries children run count limit events is are begins over = over_by terms plan entries children run count limit events (start_of terms plan) refl is are begins over
+module _ (inputs : Inputs) where
+  by_rows : (first : State) (limit : Option Limit) (events : List Event) → start_given inputs ≡ Ok first → limit ≡ limit_given inputs → events ≡ events_given inputs
+      → closed_by limit (rows_given inputs first (before_limit limit events)) ≡ run_given inputs
+  by_rows = run_by_rows inputs.terms inputs.plan inputs.entries inputs.children
+
+  -- where it begins with these rows, its events before the limit go on from them
+  goes_on_before : (first : State) (limit : Option Limit) (events : List Event) (rows : List Row) → start_given inputs ≡ Ok first → limit ≡ limit_given inputs → events ≡ events_given inputs
+      → BeginsWith (run_given inputs) rows → GoesOn (step_of inputs.terms inputs.plan inputs.entries inputs.children) (currency_of inputs.terms inputs.children) first (before_limit limit events) rows
+  goes_on_before first limit events rows starts is are begins =
+      let before = rows_given inputs first (before_limit limit events) in
+      let same : before.rows ≡ (run_given inputs).rows = sym (closed_by_rows limit before) ∙ ap (λ (run : Stream). run.rows) (by_rows first limit events starts is are) in
+      go_on (step_of inputs.terms inputs.plan inputs.entries inputs.children) (currency_of inputs.terms inputs.children) first (before_limit limit events) rows (ap (take (length rows)) same ∙ begins.first)
+
+  -- and what is made from there is the run
+  pub resumed_run : (first : State) (limit : Option Limit) (events : List Event) (rows : List Row) (count : ℕ) (kept : List Row) (state : State) (before left : List Event) (run : Stream)
+      → start_given inputs ≡ Ok first → limit ≡ limit_given inputs → events ≡ events_given inputs → BeginsWith (run_given inputs) (take count rows)
+      → count ≤ length rows → kept ≡ take count rows → state ≡ state_behind first (take count rows) → before ≡ before_limit limit events → left ≡ drop count before
+      → run ≡ with_rows kept (rows_given inputs state left) → closed_by limit run ≡ run_given inputs
+  resumed_run first limit events rows count kept state before left run starts is are begins within keeps behind ends leaves makes =
+      let goes = goes_on_before first limit events (take count rows) starts is are begins in
+      let over = rows_given inputs in
+      let size : length (take count rows) ≡ count = length-take-le count rows within in
+      let all : run ≡ over first (before_limit limit events) =
+      makes ∙ ap (λ (k : List Row). with_rows k (over state left)) keeps
+      ∙ ap (λ (s : State). with_rows (take count rows) (over s left)) behind
+      ∙ ap (λ (es : List Event). with_rows (take count rows) (over (state_behind first (take count rows)) es)) (leaves ∙ ap (drop count) ends ∙ ap (λ (n : ℕ). drop n (before_limit limit events)) (sym size))
+      ∙ goes.is in
+      ap (closed_by limit) all ∙ by_rows first limit events starts is are
+
+  -- there is an event for each of its first rows
+  pub enough_events : (first : State) (limit : Option Limit) (events : List Event) (rows : List Row) (count : ℕ) (before : List Event) → start_given inputs ≡ Ok first → limit ≡ limit_given inputs
+      → events ≡ events_given inputs → BeginsWith (run_given inputs) (take count rows) → count ≤ length rows → before ≡ before_limit limit events → count ≤ length before
+  enough_events first limit events rows count before starts is are begins within ends =
+      let goes = goes_on_before first limit events (take count rows) starts is are begins in
+      let size : length (take count rows) ≡ count = length-take-le count rows within in
+      subst (λ (es : List Event). count ≤ length es) (sym ends) (subst (λ (n : ℕ). n ≤ length (before_limit limit events)) size goes.within)
+
+  -- without a starting state it begins with no rows
+  no_first : (stop : Stop) (rows : List Row) → start_given inputs ≡ Err stop → BeginsWith (run_given inputs) rows → rows ≡ []
+  no_first stop rows stops begins =
+      let run = run_given inputs in
+      let none : run.rows ≡ [] = ap (λ (r : Stream). r.rows) (sym (run_stopped inputs.terms inputs.plan inputs.entries inputs.children stop stops)) in
+      sym begins.first ∙ take-none (length rows) run.rows none
+
+  pub none_first : (stop : Stop) (rows : List Row) (count : ℕ) → start_given inputs ≡ Err stop → BeginsWith (run_given inputs) (take count rows) → count ≤ length rows → count ≡ 0
+  none_first stop rows count stops begins within = sym (length-take-le count rows within) ∙ ap length (no_first stop (take count rows) stops begins)
+
+  -- so a state behind its first rows comes of a starting state
+  pub begun : (rows : List Row) (state : State) → BeginsWith (run_given inputs) rows → state_or_start (start_given inputs) rows ≡ Ok state → IsBegun (start_given inputs) rows state
+  begun rows state begins is = begun_by (start_given inputs) rows state (λ stop stops. no_first stop rows stops begins) is
+
+  -- ---- a run that needs no more
+
+  no_more_by : (run : Stream) (count : ℕ) (limit : Option Limit) (events : List Event) (start : Result State Stop) → start_given inputs ≡ start → limit ≡ limit_given inputs → events ≡ events_given inputs
+      → BeginsWith (run_given inputs) (take count run.rows) → NeedsNoMore run count limit events → run ≡ run_given inputs
+  unfolding rows_from
+  no_more_by run count limit events (Ok first) starts is are begins ended =
+      let left_by = λ (state : State) (rows : List Row) (l : Option Limit) (left : List Event). closed_by l (with_rows rows (rows_given inputs state left)) in
+      let rows = take count run.rows in
+      let all : rows ≡ run.rows = take_all count run.rows (omega (arith, ended.all)) in
+      let state = state_behind first rows in
+      let none : drop count (before_limit None events) ≡ [] = drop_all count events (omega (arith, ended.each)) in
+      let same : left_by state rows limit (drop count (before_limit limit events)) ≡ run_given inputs =
+      resumed_run first limit events run.rows count rows state (before_limit limit events) (drop count (before_limit limit events)) _ starts is are begins (omega (arith, ended.all)) refl refl refl refl refl in
+      let alone : run ≡ left_by state rows None [] =
+      ap (λ (c : Close). record { rows = run.rows; close = c }) ended.ended
+      ∙ ap (λ (r : List Row). record { rows = r; close = End }) (sym (append-nil run.rows) ∙ ap (λ (r : List Row). r ++ []) (sym all)) in
+      alone ∙ ap (left_by state rows None) (sym none) ∙ ap (λ (l : Option Limit). left_by state rows l (drop count (before_limit l events))) (sym ended.unstopped) ∙ same
+  no_more_by run count limit events (Err stop) starts is are begins ended =
+      let zero_of : count ≡ 0 = none_first stop run.rows count starts begins (omega (arith, ended.all)) in
+      absurd (omega (arith, ended.some, zero_of))
+
+  -- where the run wanted begins with all of its rows, it is the run wanted
+  pub no_more_is : (run : Stream) (count : ℕ) (limit : Option Limit) (events : List Event) → limit ≡ limit_given inputs → events ≡ events_given inputs → BeginsWith (run_given inputs) (take count run.rows)
+      → NeedsNoMore run count limit events → run ≡ run_given inputs
+  no_more_is run count limit events is are begins ended = no_more_by run count limit events (start_given inputs) refl is are begins ended

@@ -35,8 +35,8 @@ state_or_start start (row ∷ rows) = Ok (state_behind row.state rows)
 pub record BeginsWith (run : Stream) (rows : List Row) : Type 0 where
   pub first : take (length rows) run.rows ≡ rows
 
--- a run has rows, all of which are kept, so many, one for each of the events that count, and ended behind them; nothing stops it
-pub record IsOver (run : Stream) (count : ℕ) (limit : Option Limit) (events : List Event) : Type 0 where
+-- a run has rows, all of which are kept, so many, one for each of the events that count, and ended behind them, and nothing stops it
+pub record NeedsNoMore (run : Stream) (count : ℕ) (limit : Option Limit) (events : List Event) : Type 0 where
   pub unstopped : limit ≡ None
   pub ended : run.close ≡ End
   pub some : 0 < count

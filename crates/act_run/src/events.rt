@@ -1,6 +1,5 @@
 //! The events of a contract over a list of entries.
-ghost use Rattle.std.specs.Prelude.{◌≡◌, ◌∷◌, ◌++◌, List, Ok, map, IfOk, IfSome};
-ghost use Rattle.std.specs.Arc.{arc_value};
+ghost use Rattle.std.specs.Prelude.{◌≡◌, ◌∷◌, ◌++◌, List, Ok, IfOk, IfSome};
 ghost use Rattle.std.specs.List.{enumerate_from, flat_map};
 ghost use Rattle.act_model.specs.Observed.{observed_events};
 ghost use Rattle.act_model.specs.Run.{Stream};
@@ -8,20 +7,20 @@ ghost use Rattle.act_model.specs.declared.observed.Obs.{Obs};
 ghost use Rattle.act_profile.specs.Contract.{observed_as};
 ghost use Rattle.act_profile.specs.Events.{event_observed, events_by, events_of, events_of_entry, events_scheduled, prepayment_events, with_exercise};
 ghost use Rattle.act_profile.specs.Plan.{plan_of};
+ghost use Rattle.act_run.specs.Inputs.{events_given};
 ghost use Rattle.act_run.specs.Planned.{is_planned};
-ghost use Rattle.act_profile.specs.DayOrder.{RunsAreInDayOrder};
 
+use crate::inputs::Inputs;
 use act_credit::guarantee_events;
 use act_date::Day;
 use act_kind::{counting, put_in_order, retain_counting};
 use act_model::{
-    Common, Event, EventType, Kind, Obs, ObsKind, Observed, PenaltyType, Plan, Run, Source, Terms,
+    Common, Event, EventType, Kind, Obs, ObsKind, Observed, PenaltyType, Plan, Source, Terms,
 };
 use act_num::{Fixed, NoMemory};
 use act_option::{exercised_events, settled_events};
 use act_swap::with_rows_of_children;
 use std::alloc::Global;
-use std::sync::Arc;
 
 /// The events of a contract that count, as a part of its plan, where nothing is observed of it and its kind has no others and
 /// none that moves; else None.
@@ -57,20 +56,16 @@ fn is_planned(kind: &Kind) -> bool
 /// guarantee, and only an exercise that counts is settled. `own` are the entries of the contract's own.
 pub(crate) fn events_of<O: Observed>(
     alloc: Global,
-    terms: &Terms,
-    plan: &Plan,
+    inputs: &Inputs<'_, O>,
     own: &[Obs],
-    children: &[Arc<Run, Global>],
-    seen: &O,
 ) -> Result<Vec<Event>, NoMemory>
-    requires own { own.now ≡ observed_events (O.entries seen.now) (observed_as terms.now.common) }
-    requires children { RunsAreInDayOrder (map arc_value children.now) }
-    ensures { IfOk result (λ events. events.items
-        ≡ events_of terms.now plan.now (O.entries seen.now) (map arc_value children.now)) }
+    requires { own.now ≡ observed_events inputs.now.entries (observed_as inputs.now.terms.common) }
+    ensures { IfOk result (λ events. events.items ≡ events_given inputs.now) }
 {
-    let mut events = scheduled_events(alloc, terms, plan, own, seen)?;
+    let terms = inputs.terms;
+    let mut events = scheduled_events(alloc, inputs, own)?;
     add_all(&mut events, &terms.kind, own)?;
-    let mut events = with_rows_of_children(events, &terms.common, &terms.kind, children)?;
+    let mut events = with_rows_of_children(events, &terms.common, &terms.kind, inputs.children)?;
     put_in_order(&mut events)?;
     Ok(with_exercise(&terms.kind, retain_counting(terms, events)))
 }
@@ -79,15 +74,19 @@ pub(crate) fn events_of<O: Observed>(
 /// that of the credit event.
 fn scheduled_events<O: Observed>(
     alloc: Global,
-    terms: &Terms,
-    plan: &Plan,
+    inputs: &Inputs<'_, O>,
     own: &[Obs],
-    seen: &O,
 ) -> Result<Vec<Event>, NoMemory>
-    requires { own.now ≡ observed_events (O.entries seen.now) (observed_as terms.now.common) }
+    requires { own.now ≡ observed_events inputs.now.entries (observed_as inputs.now.terms.common) }
     ensures { IfOk result (λ events. events.items
-        ≡ events_scheduled terms.now.common terms.now.kind plan.now (O.entries seen.now)) }
+        ≡ events_scheduled inputs.now.terms.common inputs.now.terms.kind inputs.now.plan inputs.now.entries) }
 {
+    let &Inputs {
+        terms,
+        plan,
+        seen,
+        ..
+    } = inputs;
     match &terms.kind {
         Kind::OPTNS(optns) => exercised_events(alloc, &terms.common, optns, own),
         Kind::CEG(ceg) => guarantee_events(alloc, &terms.common, ceg, plan, seen),

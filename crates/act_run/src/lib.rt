@@ -2,12 +2,14 @@
 #![tactic(auto)]
 
 mod events;
+mod inputs;
 mod kept;
 mod laws;
 mod limit;
 mod rows;
 mod run;
 
+pub use inputs::Inputs;
 pub use kept::{is_kept_whole, kept_rows};
 pub use laws::{
     runs_are_kept_between_versions, runs_before_a_change_are_kept,

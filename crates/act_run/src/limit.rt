@@ -4,8 +4,10 @@ ghost use Rattle.std.specs.Arc.{arc_value};
 ghost use Rattle.std.specs.List.{fold};
 ghost use Rattle.act_profile.specs.Credit.{credit_day};
 ghost use Rattle.act_profile.specs.Stops.{chosen_close, comes_before, earlier_close, earlier_day, is_until, last_reading_day, stop_at_credit, stop_day};
-ghost use Rattle.act_run.specs.Limits.{limit_at_credit, limit_of, limit_until};
+ghost use Rattle.act_run.specs.Inputs.{limit_given};
+ghost use Rattle.act_run.specs.Limits.{limit_at_credit, limit_until};
 
+use crate::inputs::Inputs;
 use act_credit::credit_day;
 use act_date::Day;
 use act_model::{Ceg, Close, Common, EventType, Kind, Observed, Run, Terms};
@@ -23,18 +25,16 @@ pub(crate) struct Limit {
 /// Where a contract is stopped by its children's runs, if it is.
 pub(crate) fn limit_of<O: Observed>(
     alloc: Global,
-    terms: &Terms,
-    children: &[Arc<Run, Global>],
-    seen: &O,
+    inputs: &Inputs<'_, O>,
 ) -> Result<Option<Limit>, NoMemory>
-    ensures { IfOk result (λ limit. limit
-        ≡ limit_of terms.now.common terms.now.kind (O.entries seen.now) (chosen_close (map arc_value children.now))) }
+    ensures { IfOk result (λ limit. limit ≡ limit_given inputs.now) }
 {
-    let stop = chosen_close(children);
+    let terms = inputs.terms;
+    let stop = chosen_close(inputs.children);
     match &terms.kind {
         Kind::SWAPS(_) | Kind::CAPFL(_) => Ok(limit_until(last_reading_day(terms), &stop)),
-        Kind::CEG(ceg) => limit_at_credit(alloc, &terms.common, ceg, &stop, seen),
-        Kind::CEC(cec) => limit_at_credit(alloc, &terms.common, &cec.guarantee, &stop, seen),
+        Kind::CEG(ceg) => limit_at_credit(alloc, &terms.common, ceg, &stop, inputs.seen),
+        Kind::CEC(cec) => limit_at_credit(alloc, &terms.common, &cec.guarantee, &stop, inputs.seen),
         _ => Ok(None),
     }
 }

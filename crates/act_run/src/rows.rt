@@ -1,14 +1,13 @@
 //! The rows of events.
-ghost use Rattle.std.specs.Prelude.{◌≡◌, ◌+◌, ◌≤◌, length, map, take, Ok, IfOk};
+ghost use Rattle.std.specs.Prelude.{◌≡◌, ◌+◌, ◌≤◌, length, map, take, IfOk};
 ghost use Rattle.std.specs.Arc.{arc_value};
-ghost use Rattle.act_profile.specs.Built.{IsBuilt};
-ghost use Rattle.act_profile.specs.Plan.{plan_of};
 ghost use Rattle.act_profile.specs.Run.{close_of, rows_from, stopped_at_once};
 ghost use Rattle.act_profile.specs.Steps.{currency_of, start_of, step_of};
 ghost use Rattle.act_run.specs.Resuming.{state_or_start, with_rows};
 
+use crate::inputs::Inputs;
 use act_contract::{advance, currency_of, loan_table, start};
-use act_model::{Close, Event, Observed, Plan, RowHead, Rows, Run, State, Stop, Terms};
+use act_model::{Close, Event, Observed, RowHead, Rows, Run, State, Stop, Terms};
 use act_num::{Fixed, NoMemory, Steps};
 use std::alloc::Global;
 use std::sync::Arc;
@@ -16,42 +15,40 @@ use std::sync::ledger::Ledger;
 
 /// The state behind the first rows of a run, so many: that of the last of them, and of none what the contract begins with, or the
 /// stop where its starting state is undefined.
-pub(crate) fn state_or_start(
-    terms: &Terms,
-    plan: &Plan,
+pub(crate) fn state_or_start<O: Observed>(
+    inputs: &Inputs<'_, O>,
     rows: &Rows,
     count: usize,
 ) -> Result<State, Stop>
-    requires built { IsBuilt terms.now.kind }
-    requires plan { plan_of terms.now ≡ Ok plan.now }
     requires within { count ≤ length rows.now }
-    ensures { result ≡ state_or_start (start_of terms.now plan.now) (take count rows.now) }
+    ensures { result ≡ state_or_start (start_of inputs.now.terms inputs.now.plan) (take count rows.now) }
 {
     match count.checked_sub(1) {
         Some(last) => Ok(rows.row(last).state),
-        None => start(terms, plan),
+        None => start(inputs.terms, inputs.plan),
     }
 }
 
 /// Rows, and behind them those of events from a state on, one for each, up to the first stop. It ticks once for each row that
 /// it adds.
 pub(crate) fn rows_behind<O: Observed, L: Ledger>(
-    terms: &Terms,
-    plan: &Plan,
+    inputs: &Inputs<'_, O>,
     mut rows: Rows,
     first: State,
     events: &[Event],
-    children: &[Arc<Run, Global>],
-    seen: &O,
     steps: &mut Steps<L>,
 ) -> Result<Run, NoMemory>
-    requires built { IsBuilt terms.now.kind }
-    requires plan { plan_of terms.now ≡ Ok plan.now }
     ensures run { IfOk result (λ run. run
-        ≡ with_rows rows (rows_from (step_of terms.now plan.now (O.entries seen.now) (map arc_value children.now))
-        (currency_of terms.now (map arc_value children.now)) first events.now)) }
+        ≡ with_rows rows (rows_from (step_of inputs.now.terms inputs.now.plan inputs.now.entries inputs.now.children)
+        (currency_of inputs.now.terms inputs.now.children) first events.now)) }
     ensures ticked { IfOk result (λ run. steps.new + length rows ≡ steps.old + length run.rows) }
 {
+    let &Inputs {
+        terms,
+        plan,
+        children,
+        seen,
+    } = inputs;
     let table = loan_table(terms, plan);
     let mut state = first;
     'events: for event in events {

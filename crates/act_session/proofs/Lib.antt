@@ -1,4 +1,5 @@
 pub mod Closed
+pub mod Interleaved
 pub mod Lists
 pub mod Marks
 pub mod Moving

@@ -56,30 +56,22 @@ module _ (i : ℕ) where
       by rest (mark.Finish c v) own is = rest
       by rest mark.GiveUp own is = rest
 
-  collect-is-own : (m : Mark) → is_collect_by i m ≡ true → is_of i m ≡ true
-  collect-is-own (mark.Collect j) is = is
-  collect-is-own (mark.Append j entry) is = absurd (cc)
-  collect-is-own (mark.Ask j asked) is = absurd (cc)
-  collect-is-own (mark.Leave j) is = absurd (cc)
-  collect-is-own (mark.Claim c v) is = absurd (cc)
-  collect-is-own (mark.Finish c v) is = absurd (cc)
-  collect-is-own mark.GiveUp is = absurd (cc)
-
-  leave-is-own : (m : Mark) → is_leave_by i m ≡ true → is_of i m ≡ true
-  leave-is-own (mark.Leave j) is = is
-  leave-is-own (mark.Append j entry) is = absurd (cc)
-  leave-is-own (mark.Ask j asked) is = absurd (cc)
-  leave-is-own (mark.Collect j) is = absurd (cc)
-  leave-is-own (mark.Claim c v) is = absurd (cc)
-  leave-is-own (mark.Finish c v) is = absurd (cc)
-  leave-is-own mark.GiveUp is = absurd (cc)
+  -- a mark by which it collects or leaves is its own
+  is-own : (m : Mark) → (is_collect_by i m ≡ true → is_of i m ≡ true) × (is_leave_by i m ≡ true → is_of i m ≡ true)
+  is-own (mark.Collect j) = (λ is. is, λ is. absurd (cc))
+  is-own (mark.Leave j) = (λ is. absurd (cc), λ is. is)
+  is-own (mark.Append j entry) = (λ is. absurd (cc), λ is. absurd (cc))
+  is-own (mark.Ask j asked) = (λ is. absurd (cc), λ is. absurd (cc))
+  is-own (mark.Claim c v) = (λ is. absurd (cc), λ is. absurd (cc))
+  is-own (mark.Finish c v) = (λ is. absurd (cc), λ is. absurd (cc))
+  is-own mark.GiveUp = (λ is. absurd (cc), λ is. absurd (cc))
 
   -- how often it has collected, and whether it has left
   pub own-collects : (marks : List Mark) → count_by (is_collect_by i) (marks_by i marks) ≡ count_by (is_collect_by i) marks
-  own-collects marks = count-within (is_collect_by i) (is_of i) collect-is-own marks
+  own-collects marks = count-within (is_collect_by i) (is_of i) (λ m. (is-own m).0) marks
 
   pub own-leaves : (marks : List Mark) → list_any (is_leave_by i) (marks_by i marks) ≡ list_any (is_leave_by i) marks
-  own-leaves marks = any-within (is_leave_by i) (is_of i) leave-is-own marks
+  own-leaves marks = any-within (is_leave_by i) (is_of i) (λ m. (is-own m).1) marks
 
 -- lists of marks are the same where their entries are
 pub same-marks : (ms ns : List Mark) → map entry.Mark ms ≡ map entry.Mark ns → ms ≡ ns

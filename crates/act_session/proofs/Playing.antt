@@ -14,7 +14,7 @@ use Rattle.act_portfolio.specs.Reading.{Accepted}
 use Rattle.act_turn.specs.Standing.{Standing}
 use Rattle.act_board.specs.declared.history.Entry.{Entry}
 use Rattle.act_desk.specs.Desk.{Desk}
-use Rattle.act_desk.specs.Making.{HasMade, HasWatched, MayMake, appends}
+use Rattle.act_desk.specs.Making.{HasMade, HasWatched, IsAt, MayMake, appends}
 use Rattle.act_desk.specs.Step.{opening}
 use Rattle.act_session.specs.declared.actor.Actor.{Actor}
 use Rattle.act_session.specs.Playing.{ArePlayable, HasPlayed, IsPlayable, first_pass, lines_of, quotas_of}
@@ -49,6 +49,11 @@ module _ (of : Accepted) (scripts : List (List Line)) (place : ℕ) (lines : Lis
         entries = playable.entries;
         known = playable.known;
       }
+
+-- a pass that has had no turn yet is at its desk
+pub first-is-at : (desk : Desk) (scripts : List (List Line)) (place : ℕ) (pass : Standing Entry) → pass ≡ first_pass desk scripts place → IsAt desk (place + 1) pass
+first-is-at desk scripts place pass first =
+    subst (IsAt desk (place + 1)) (sym first) (record { free = (refl, refl); own = refl; portfolio = record { history = opening desk.portfolio (quotas_of scripts); seen = refl; holds = refl } })
 
 module _ {A : Type 0} (kept_of : Reply → A) (desk : Desk) (scripts : List (List Line)) (place : ℕ) (old new : Standing Entry) (first : old ≡ first_pass desk scripts place) where
   -- a caller that has its answers has made its lines

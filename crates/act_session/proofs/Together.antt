@@ -13,10 +13,11 @@ use Rattle.act_model.specs.declared.journal.Item.{Item}
 use Rattle.act_model.specs.declared.journal.Line.{Line}
 use Rattle.act_profile.specs.Answers.{answer_to, answers_of}
 use Rattle.act_portfolio.specs.Reading.{Accepted}
-use Rattle.act_history.specs.History.{History, entries_of, journal_of}
-use Rattle.act_history.specs.Legal.{IsSound, most_callers}
+use Rattle.act_history.specs.History.{History, entries_of, journal_of, replies_of}
+use Rattle.act_history.specs.Legal.{IsSound}
+use Rattle.act_model.specs.Limits.{most_callers}
 use Rattle.act_desk.specs.Making.{appends, item_by}
-use Rattle.act_session.specs.Playing.{AreOwn, IsPlayed, answers_by, quotas_of, replies_of}
+use Rattle.act_session.specs.Playing.{AreOwn, IsPlayed, answers_by, quotas_of}
 use Rattle.act_session.proofs.Lists.{joined-by_number, map-joined, mapped-by_number}
 use Rattle.act_session.proofs.Marks.{IsWithin, items-within, none-behind}
 use Rattle.act_session.proofs.Played.{HasAll}

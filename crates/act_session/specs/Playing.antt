@@ -1,17 +1,17 @@
 -- What a session asks of scripts, and what it ends with. This profile's own.
 use Rattle.std.specs.Prelude.{◌≡◌, ℕ, ◌+◌, ◌≤◌, true, List, length, map, IfSome, Option, Some, Vec, sum}
-use Rattle.std.specs.List.{All, count_by, flat_map, range_with_len, slice_get}
+use Rattle.std.specs.List.{All, count_by, range_with_len, slice_get}
 use Rattle.std.specs.declared.alloc.Global.{Global}
 use Rattle.act_model.specs.Answer.{Reply}
 use Rattle.act_model.specs.Journal.{appends_entry}
-use Rattle.act_model.specs.Limits.{most_entries}
+use Rattle.act_model.specs.Limits.{most_asks, most_callers, most_entries}
 use Rattle.act_model.specs.declared.journal.Line.{Line}
 use Rattle.act_profile.specs.Answers.{answer_to}
 use Rattle.act_portfolio.specs.Reading.{Accepted}
 use Rattle.act_turn.specs.Standing.{IsFree, Standing, first_standing}
 use Rattle.act_board.specs.Entries.{list_of}
 use Rattle.act_history.specs.History.{History, asks_by, collected_by, entries_of, has_left, journal_of}
-use Rattle.act_history.specs.Legal.{IsSound, most_asks, most_callers}
+use Rattle.act_history.specs.Legal.{IsSound}
 use Rattle.act_board.specs.declared.history.Entry.{Entry}
 use Rattle.act_desk.specs.Desk.{Desk}
 use Rattle.act_desk.specs.Making.{HasMade, appends, asks, asks_known}
@@ -21,10 +21,6 @@ use Rattle.act_session.specs.Interleaving.{IsInterleaving}
 -- the lines of each script
 abbrev pub lines_of : List (Vec Line Global) → List (List Line)
 lines_of scripts = map (λ script. script.items) scripts
-
--- what all callers keep of their answers, one caller's after another's
-abbrev pub replies_of : {A : Type 0} → List (Vec A Global) → List A
-replies_of answers = flat_map (λ replies. replies.items) answers
 
 -- the answers to the asks of a caller of a board, in their order: each contract asked, evaluated from inception over the entries before
 -- the ask

@@ -2,10 +2,9 @@
 ghost use Rattle.std.specs.Prelude.{◌≡◌};
 ghost use Rattle.act_session.specs.Playing.{ArePlayable, HasPlayed, first_pass, lines_of};
 
-use act_desk::{Desk, DeskPass, FromAnswer};
+use act_desk::{Context, Desk, DeskPass, FromAnswer};
 use act_io::Gate;
 use act_model::Line;
-use std::alloc::Global;
 use std::sync::Wait;
 
 /// A caller or a worker: its pass, and what a caller that has made its lines keeps of its answers.
@@ -19,12 +18,10 @@ impl<A: FromAnswer> Actor<A> {
     /// answers where memory ran out.
     pub(crate) fn play<R: Wait, G: Gate>(
         &mut self,
-        rt: &R,
-        alloc: Global,
+        context: &Context<'_, R, G>,
         desk: &Desk,
         place: usize,
         scripts: &[Vec<Line>],
-        gate: &G,
     )
         requires scripts { ArePlayable desk.now.portfolio (lines_of scripts.now) }
         requires first { self.old.pass ≡ first_pass desk.now (lines_of scripts.now) place }
@@ -34,11 +31,11 @@ impl<A: FromAnswer> Actor<A> {
             Some(lines) => {
                 let number = place as u32 + 1;
                 self.answers = desk
-                    .caller_keeping(rt, alloc, &mut self.pass, number, lines, gate)
+                    .caller_keeping(context, &mut self.pass, number, lines)
                     .ok();
             }
             None => {
-                let _ = desk.worker(rt, alloc, &mut self.pass, gate);
+                let _ = desk.worker(context, &mut self.pass);
             }
         }
     }

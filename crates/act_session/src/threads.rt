@@ -4,18 +4,18 @@ ghost use Rattle.std.specs.Arc.{arc_value};
 ghost use Rattle.act_profile.specs.Answers as asked;
 ghost use Rattle.act_turn.specs.Standing.{AreNumbered};
 ghost use Rattle.act_board.specs.Entries.{list_of};
-ghost use Rattle.act_history.specs.History.{journal_of};
+ghost use Rattle.act_history.specs.History.{journal_of, replies_of};
 ghost use Rattle.act_desk.specs.Step.{opening};
 ghost use Rattle.act_session.specs.Playing as playing;
-ghost use Rattle.act_session.specs.Playing.{AreOwn, ArePlayable, HasPlayed, IsPlayed, first_pass, lines_of, replies_of};
+ghost use Rattle.act_session.specs.Playing.{AreOwn, ArePlayable, HasPlayed, IsPlayed, first_pass, lines_of};
 ghost use Rattle.act_session.specs.Seats.{HavePlayed, passes_of};
 
 use crate::actor::Actor;
 use crate::outcome::Session;
 use crate::seats::{quotas_of, rise, seat, take_answers};
-use act_desk::{Desk, DeskPass, FromAnswer, MOST_WORKERS};
+use act_desk::{Context, Desk, DeskPass, FromAnswer};
 use act_io::Gate;
-use act_model::Line;
+use act_model::{Line, MOST_WORKERS};
 use act_num::NoMemory;
 use act_portfolio::Portfolio;
 use std::alloc::Global;
@@ -24,15 +24,13 @@ use std::thread::{Threads, for_each_mut};
 
 /// Plays scripts on one board of a portfolio. For each script there is a caller, 1 to 16, which makes the steps of its lines, collects
 /// its answers and leaves; of each answer it keeps an `A`. Beside them so many workers, at most 64, make evaluations. Each has a thread
-/// of its own, where one can be made. What is added is allocated by `alloc`, and the gate is told before and after each evaluation.
+/// of its own, where one can be made. The context's gate is told before and after each evaluation.
 /// Where memory runs out for a caller there are no answers.
 pub fn session<R: Threads + Wait + Sync, G: Gate, A: FromAnswer>(
-    rt: &R,
-    alloc: Global,
+    context: &Context<'_, R, G>,
     portfolio: Arc<Portfolio, Global>,
     scripts: &[Vec<Line>],
     workers: u32,
-    gate: &G,
 ) -> Result<Session<A>, NoMemory>
     requires scripts { ArePlayable (arc_value portfolio) (lines_of scripts.now) }
     requires workers { workers ≤ MOST_WORKERS }
@@ -41,6 +39,7 @@ pub fn session<R: Threads + Wait + Sync, G: Gate, A: FromAnswer>(
     ensures answers { IfOk result (λ s. replies_of s.answers.items
         ≡ map A.kept_of (asked.answers_of (arc_value portfolio).contracts (arc_value portfolio).names (journal_of s.board))) }
 {
+    let alloc = context.alloc;
     let quotas = quotas_of(alloc, scripts)?;
     let answers = Vec::with_capacity(alloc, scripts.len())?;
     let seats = scripts.len() + workers as usize;
@@ -50,7 +49,7 @@ pub fn session<R: Threads + Wait + Sync, G: Gate, A: FromAnswer>(
         return Err(NoMemory);
     };
     seat(&mut passes, &mut actors);
-    play_all(rt, alloc, &desk, actors.as_mut_slice(), scripts, gate);
+    play_all(context, &desk, actors.as_mut_slice(), scripts);
     end(desk, actors, scripts, passes, answers)
 }
 
@@ -58,12 +57,10 @@ pub fn session<R: Threads + Wait + Sync, G: Gate, A: FromAnswer>(
 /// another in one thread, from the last place down. A caller needs nobody else to end, and a worker ends only once all callers have
 /// left, so the workers stand before the callers meanwhile.
 fn play_all<R: Threads + Wait + Sync, G: Gate, A: FromAnswer>(
-    rt: &R,
-    alloc: Global,
+    context: &Context<'_, R, G>,
     desk: &Desk,
     actors: &mut [Actor<A>],
     scripts: &[Vec<Line>],
-    gate: &G,
 )
     requires scripts { ArePlayable desk.now.portfolio (lines_of scripts.now) }
     requires some { 0 < length actors.old }
@@ -73,7 +70,7 @@ fn play_all<R: Threads + Wait + Sync, G: Gate, A: FromAnswer>(
     let count = actors.len();
     actors.reverse();
     for_each_mut(
-        rt,
+        context.rt,
         actors,
         count,
         &|turned: usize, actor: &mut Actor<A>|
@@ -81,7 +78,7 @@ fn play_all<R: Threads + Wait + Sync, G: Gate, A: FromAnswer>(
             requires scripts { ArePlayable desk.now.portfolio (lines_of scripts.now) }
             requires first { actor.now.pass ≡ first_pass desk.now (lines_of scripts.now) (count - 1 - turned) }
             ensures { HasPlayed A.kept_of desk.entry.now (lines_of scripts.entry.now) (count - 1 - turned) actor.exit.now.pass actor.exit.now.answers }
-        { actor.play(rt, alloc, desk, count - 1 - turned, scripts, gate) },
+        { actor.play(context, desk, count - 1 - turned, scripts) },
     );
     actors.reverse();
 }

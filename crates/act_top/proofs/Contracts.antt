@@ -2,18 +2,14 @@
 use Rattle.std.proofs.Common.{◌≡◌, ℕ, ◌+◌, ◌<◌, ◌≤◌, List, [], ◌∷◌, ◌++◌, length, drop, get_or, Some, slice_get, refl, sym, ap, ◌∙◌}
 use Rattle.std.specs.List.{flat_map}
 use Rattle.std.proofs.lemmas.List.{drop_all}
-use Rattle.std.proofs.lemmas.Option.{get_or_from_slice_get, slice_get_read, slice_get_within, slice_get-get_or, unwrap_or-slice_get}
+use Rattle.std.proofs.lemmas.Option.{slice_get_read, slice_get-get_or, unwrap_or-slice_get}
 use Rattle.act_model.specs.declared.terms.Terms.{Terms}
 use Rattle.act_cones.specs.Counts.{scheduled_count}
 use Rattle.act_portfolio.specs.Reading.{Accepted}
 use Rattle.act_model.specs.Kind.{type_name, type_of}
 use Rattle.act_text.specs.Lines.{name_of}
-use Rattle.act_top.specs.Output.{contract_line, contracts_text, unused_line}
-use Rattle.act_top.proofs.Texts.{drop-next}
-
--- the item of a place, and those behind it
-pub drop-at : {X : Type 0} (xs : List X) (i : ℕ) (x : X) → slice_get xs i ≡ Some x → drop i xs ≡ x ∷ drop (i + 1) xs
-drop-at xs i x here = drop-next xs i x (slice_get_within xs i x here) (sym (get_or_from_slice_get xs i x x here))
+use Rattle.act_top.specs.Check.{contract_line, contracts_text, unused_line}
+use Rattle.act_engine.proofs.Lists.{drop-at}
 
 -- an item that was read of a list
 pub at-place : {X : Type 0} (xs read : List X) (n i : ℕ) (x : X) → read ≡ xs → n ≡ length xs → i < n → x ≡ get_or read i x → slice_get xs i ≡ Some x

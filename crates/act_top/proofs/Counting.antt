@@ -6,8 +6,8 @@ use Rattle.std.proofs.lemmas.Bool.{cases_Bool, ltb-false, ltb-true}
 use Rattle.std.proofs.lemmas.List.Sums.{sum_by-append, sum_by-cons}
 use Rattle.act_model.specs.Answer.{Reply}
 use Rattle.act_model.specs.declared.run.Row.{Row}
-use Rattle.act_top.specs.BigTotals.{Adds, Counts, all_totals, answer_totals, modulo_2_64, payoff_units, rows_in, rows_of_answers, rows_of_runs, sums_in, totals_of}
-use Rattle.act_top.specs.declared.big_totals.Totals.{Totals}
+use Rattle.act_top.specs.Totals.{Adds, Counts, all_totals, answer_totals, modulo_2_64, payoff_units, rows_in, rows_of_answers, rows_of_runs, sums_in, totals_of}
+use Rattle.act_top.specs.declared.totals.Totals.{Totals}
 
 -- ---- what is left of a whole number
 

@@ -4,14 +4,14 @@ use Rattle.std.specs.Prelude.{◌==◌, slice_get}
 use Rattle.std.specs.List.{All, enumerate_from, filter, flat_map}
 use Rattle.std.proofs.lemmas.Bool.{eq-eqb, ne_eqb}
 use Rattle.std.proofs.lemmas.List.{map-append}
-use Rattle.std.proofs.lemmas.List.Elements.{All-append, All-map, All-nil, filter-append}
+use Rattle.std.proofs.lemmas.List.Elements.{All-append, All-head, All-map, All-nil, All-tail, filter-append}
 use Rattle.act_model.specs.declared.journal.Item.{Item}
 use Rattle.act_model.specs.declared.journal.Line.{Line}
 use Rattle.act_model.specs.declared.journal.Step.{Step}
 use Rattle.act_session.specs.Interleaving.{steps_by, steps_of}
-use Rattle.act_top.specs.Desk.{InTurnIsInterleaving, OneScriptIsJournal, items_by}
-use Rattle.act_top.specs.Output.{items_of}
-use Rattle.act_top.proofs.Journals.{all-head, all-tail, mine-first, other-first}
+use Rattle.act_top.specs.Laws.{InTurnIsInterleaving, OneScriptIsJournal, items_by}
+use Rattle.act_transcript.specs.Text.{items_of}
+use Rattle.act_session.proofs.Interleaved.{mine-first, other-first}
 
 -- ---- one script
 
@@ -19,10 +19,10 @@ use Rattle.act_top.proofs.Journals.{all-head, all-tail, mine-first, other-first}
 of-steps : (items : List Item) → All (λ (item : Item). (1 ≤ item.caller) × (item.caller ≤ 1)) items → items ≡ map (λ (step : Step). record { caller = 1; step = step }) (steps_by items 1)
 of-steps [] all = refl
 of-steps (item ∷ items) all =
-    let within = all-head (λ (i : Item). (1 ≤ i.caller) × (i.caller ≤ 1)) item items all in
+    let within = All-head (λ (i : Item). (1 ≤ i.caller) × (i.caller ≤ 1)) item items all in
     let first : item.caller ≡ 1 = omega (arith, within.0, within.1) in
     let steps = mine-first item items 1 (eq-eqb item.caller 1 first) in
-    let rest = of-steps items (all-tail (λ (i : Item). (1 ≤ i.caller) × (i.caller ≤ 1)) item items all) in
+    let rest = of-steps items (All-tail (λ (i : Item). (1 ≤ i.caller) × (i.caller ≤ 1)) item items all) in
     let here : item ≡ record { caller = 1; step = item.step } = ap (λ (c : ℕ). record { caller = c; step = item.step }) first in
     let one : ◌≡◌ {A = List Item} (item ∷ items) (record { caller = 1; step = item.step } ∷ map (λ (step : Step). record { caller = 1; step = step }) (steps_by items 1)) =
     ap (λ (i : Item). i ∷ items) here ∙ ap (λ (its : List Item). record { caller = 1; step = item.step } ∷ its) rest in
@@ -49,10 +49,10 @@ own-steps caller (line ∷ lines) =
     mine-first (record { caller = caller; step = line.step }) (items_by caller lines) caller (eq-eqb caller caller refl) ∙ ap (λ (steps : List Step). line.step ∷ steps) (own-steps caller lines)
 
 -- and no other's
-no-steps : (caller : ℕ) (items : List Item) → All (λ (item : Item). item.caller ≢ caller) items → steps_by items caller ≡ []
+pub no-steps : (caller : ℕ) (items : List Item) → All (λ (item : Item). item.caller ≢ caller) items → steps_by items caller ≡ []
 no-steps caller [] others = refl
 no-steps caller (item ∷ items) others =
-    other-first item items caller (ne_eqb item.caller caller (all-head (λ (i : Item). i.caller ≢ caller) item items others)) ∙ no-steps caller items (all-tail (λ (i : Item). i.caller ≢ caller) item items others)
+    other-first item items caller (ne_eqb item.caller caller (All-head (λ (i : Item). i.caller ≢ caller) item items others)) ∙ no-steps caller items (All-tail (λ (i : Item). i.caller ≢ caller) item items others)
 
 abbrev from : ℕ → List (List Line) → List Item
 from n lists = flat_map (λ (script : ℕ × List Line). items_by script.0 script.1) (enumerate_from n lists)

@@ -1,60 +1,68 @@
-//! The command of the large run: what the generator makes of a number, run at the desk.
-ghost use Rattle.std.specs.Prelude.{◌≡◌, ◌≤◌, length, IfErr, IfOk, ⊤};
-ghost use Rattle.act_gen.specs.Portfolio.{portfolio_text};
+//! The command `big`: what the generator makes of a number, run at a desk.
+ghost use Rattle.std.specs.Prelude.{◌≡◌, ◌≤◌, ℕ, Some, length, IfOk};
+ghost use Rattle.act_engine.specs.Ending.{Goes};
+ghost use Rattle.act_model.specs.Limits.{most_workers};
+ghost use Rattle.act_engine.specs.Reading.{Reads, read_of};
+ghost use Rattle.act_engine.specs.Writing.{Writes};
+ghost use Rattle.act_engine.specs.declared.status.Status.TheVariants.{Done};
 ghost use Rattle.act_gen.specs.Script.{script_text};
-ghost use Rattle.act_script.specs.Reading.{Script as ScriptRead};
-ghost use Rattle.act_script.specs.Results.{result_and_then};
-ghost use Rattle.act_top.specs.Big.{EndsAsBig, IsOneScript, RunsBig, big_told, script_made};
-ghost use Rattle.act_top.specs.BigCommand.{IsBigCommand, most_size};
-ghost use Rattle.act_top.specs.BigTotals.{answer_totals};
-ghost use Rattle.act_top.specs.Halts.{Reads, RefusesOnly};
-ghost use Rattle.act_top.specs.Output.{portfolio_accepted};
-ghost use Rattle.act_top.specs.Played.{IsPlayOf};
-ghost use Rattle.act_top.specs.Scripts.{AreScriptsOf, no_scripts, with_script};
+ghost use Rattle.act_history.specs.History.{journal_of};
+ghost use Rattle.act_io.specs.World.{World};
+ghost use Rattle.act_job.specs.Reading.{next_accepted};
+ghost use Rattle.act_job.specs.Scripts.{AreScriptsOf, no_scripts};
+ghost use Rattle.act_profile.specs.Answers.{answers_of};
+ghost use Rattle.act_top.specs.Big.{big_meaning, big_reading};
+ghost use Rattle.act_top.specs.Desk.{IsPlayOf};
+ghost use Rattle.act_top.specs.Ran.{board_of, status_told};
+ghost use Rattle.act_top.specs.Totals.{answer_totals, totals_text};
+ghost use Rattle.act_top.specs.Words.{most_size};
 
-use crate::big_command::BigCommand;
-use crate::big_totals::Totals;
-use crate::desk::{Ran, play, without_board};
-use crate::desk_job::DeskJob;
-use crate::halt::Halt;
-use crate::reading::{accepted_portfolio, accepted_script};
-use crate::scripts::{Scripts, with_script};
-use crate::top::{Status, status_of, write_halt};
+use crate::desk::play;
+use crate::ran::Ran;
+use crate::totals::{Totals, write_totals};
+use act_desk::Context;
+use act_engine::{Failure, Halt, Status};
 use act_gen::{portfolio_bytes, script_bytes};
 use act_io::{Gate, Sink};
-use act_num::NoMemory;
+use act_job::{Job, Scripts, accept_portfolio};
 use act_portfolio::Portfolio;
 use act_session::Session;
 use std::alloc::Global;
 use std::sync::Wait;
 use std::thread::Threads;
 
-/// Runs what the generator makes of a number, and writes the totals of the answers, or a line that says why it is refused.
+/// Runs `big N W`: writes the totals of the answers.
 pub(crate) fn run_big<R: Threads + Wait + Sync, K: Sink, G: Gate>(
-    rt: &R,
-    alloc: Global,
+    context: &Context<'_, R, G>,
     out: &mut K,
-    command: BigCommand,
-    gate: &G,
-) -> Ran
-    requires { IsBigCommand command }
-    ensures { EndsAsBig command.size result.status result.board (K.written out.old) (K.written out.new) (K.faults out.old) (K.faults out.new) }
+    size: u32,
+    workers: u32,
+) -> Result<Ran, Halt<'static>>
+    requires some { 1 ≤ size }
+    requires few { size ≤ most_size }
+    requires workers { workers ≤ most_workers }
+    ensures { (world : World) (rows : ℕ) → Goes (big_meaning size workers) (record { world = world; page = K.page out.old; rows = rows })
+        (status_told result) (board_of result) (record { world = world; page = K.page out.new; rows = rows }) }
 {
-    match big_job(alloc, command) {
-        Ok(job) => run_job(rt, alloc, out, command.size, &job, gate),
-        Err(halt) => without_board(status_of(write_halt(out, &halt))),
-    }
+    let alloc = context.alloc;
+    let job = big_job(alloc, size, workers)?;
+    let played = play(context, &job)?;
+    Ok(write_played(alloc, out, size, &job, played)?)
 }
 
 /// What is to be run of a number: the portfolio and the script that the generator makes, which are read as files are.
-fn big_job(alloc: Global, command: BigCommand) -> Result<DeskJob, Halt>
-    requires { IsBigCommand command }
-    ensures told { Reads (big_told command) result }
-    ensures refused { IfErr result (RefusesOnly ⊤ ⊤) }
+fn big_job(alloc: Global, size: u32, workers: u32) -> Result<Job, Halt<'static>>
+    requires some { 1 ≤ size }
+    requires few { size ≤ most_size }
+    requires workers { workers ≤ most_workers }
+    ensures read { (world : World) → Reads (big_reading size workers) world (read_of result) world }
+    ensures one { IfOk result (λ job. length job.scripts.lists ≡ 1) }
 {
-    let portfolio = portfolio_of(alloc, command.size)?;
-    match scripts_of(alloc, &portfolio, command.size) {
-        Ok(scripts) => DeskJob::new(alloc, portfolio, scripts, command.workers),
+    let bytes = portfolio_bytes(alloc, size)?;
+    let portfolio = accept_portfolio(alloc, &bytes)?;
+    drop(bytes);
+    match big_scripts(alloc, &portfolio, size) {
+        Ok(scripts) => Job::new(alloc, workers, portfolio, scripts),
         Err(halt) => {
             drop(portfolio);
             Err(halt)
@@ -62,48 +70,16 @@ fn big_job(alloc: Global, command: BigCommand) -> Result<DeskJob, Halt>
     }
 }
 
-/// The portfolio of a number.
-fn portfolio_of(alloc: Global, size: u32) -> Result<Portfolio, Halt>
+/// The one script of a number, for its portfolio.
+fn big_scripts(alloc: Global, portfolio: &Portfolio, size: u32) -> Result<Scripts, Halt<'static>>
     requires some { 1 ≤ size }
     requires few { size ≤ most_size }
-    ensures told { Reads (portfolio_accepted (portfolio_text size)) result }
-    ensures refused { IfErr result (RefusesOnly ⊤ ⊥) }
-{
-    let bytes = portfolio_bytes(alloc, size)?;
-    accepted_portfolio(alloc, &bytes)
-}
-
-/// The script of a number, for its portfolio.
-fn scripts_of(alloc: Global, portfolio: &Portfolio, size: u32) -> Result<Scripts, Halt>
-    requires some { 1 ≤ size }
-    requires few { size ≤ most_size }
-    ensures told { Reads (result_and_then (λ script. Ok (with_script (no_scripts portfolio.now) script)) (script_made size portfolio.now)) result }
+    ensures read { (world : World) → Reads (next_accepted portfolio.now (no_scripts portfolio.now) (script_text size)) world (read_of result) world }
     ensures lines { IfOk result (AreScriptsOf portfolio.now) }
     ensures count { IfOk result (λ scripts. length scripts.lists ≡ 1) }
-    ensures refused { IfErr result (RefusesOnly ⊥ ⊤) }
 {
     let bytes = script_bytes(alloc, size)?;
-    let names = portfolio.into_names()?;
-    let script = accepted_script(alloc, portfolio, 1, names, 0, &bytes)?;
-    Ok(with_script(Vec::new(alloc), script)?)
-}
-
-/// Runs a job of one script, and writes the totals of its answers.
-fn run_job<R: Threads + Wait + Sync, K: Sink, G: Gate>(
-    rt: &R,
-    alloc: Global,
-    out: &mut K,
-    size: u32,
-    job: &DeskJob,
-    gate: &G,
-) -> Ran
-    ensures { (script : ScriptRead) → IsOneScript job.now script →
-        RunsBig size job.now.portfolio script result.status result.board (K.written out.old) (K.written out.new) (K.faults out.old) (K.faults out.new) }
-{
-    match play(rt, alloc, job, gate) {
-        Ok(played) => write_played(alloc, out, size, job, played),
-        Err(NoMemory) => without_board(Status::NoMemory),
-    }
+    Scripts::accept_one(alloc, portfolio, &bytes)
 }
 
 /// Writes the totals of what was played of a job of one script.
@@ -111,24 +87,25 @@ fn write_played<K: Sink>(
     alloc: Global,
     out: &mut K,
     size: u32,
-    job: &DeskJob,
+    job: &Job,
     played: Session<Totals>,
-) -> Ran
+) -> Result<Ran, Failure>
     requires { IsPlayOf answer_totals job.now played }
-    ensures { (script : ScriptRead) → IsOneScript job.now script →
-        RunsBig size job.now.portfolio script result.status result.board (K.written out.old) (K.written out.new) (K.faults out.old) (K.faults out.new) }
+    ensures ran { IfOk result (λ ran. (ran.status ≡ Done) × (ran.board ≡ Some played.board)) }
+    ensures text { Writes (totals_text size (length job.now.portfolio.names.contracts)
+        (answers_of job.now.portfolio.contracts job.now.scripts.names (journal_of played.board))) (K.page out.old) result (K.page out.new) }
 {
     let Session { board, answers } = played;
-    let written = job.write_totals(alloc, out, size, board.journal(), &answers);
+    let written = write_totals(alloc, out, size, job.portfolio.named(), &answers);
     drop(answers);
     match written {
-        Ok(()) => Ran {
+        Ok(()) => Ok(Ran {
             status: Status::Done,
             board: Some(board),
-        },
+        }),
         Err(stop) => {
             drop(board);
-            without_board(status_of(Err(stop)))
+            Err(stop)
         }
     }
 }

@@ -1,32 +1,43 @@
-//! What `check` writes.
-ghost use Rattle.std.specs.Prelude.{◌≡◌, ◌≤◌, ◌++◌, length, map, string_bytes, Err};
+//! The command `check`.
+ghost use Rattle.std.specs.Prelude.{◌≡◌, ℕ, ◌++◌, None, length, map, string_bytes};
 ghost use Rattle.std.specs.List.{flat_map, list_all};
+ghost use Rattle.act_engine.specs.Ending.{Goes};
+ghost use Rattle.act_engine.specs.Reading.{read_of};
+ghost use Rattle.act_engine.specs.Writing.{Writes};
 ghost use Rattle.act_model.specs.Name.{has_form, is_graphic};
 ghost use Rattle.act_model.specs.Kind.{type_of};
-ghost use Rattle.act_text.specs.Lines.{line_of};
 ghost use Rattle.act_model.specs.Kind.{type_name};
-ghost use Rattle.act_top.specs.Output.{check_text, contract_line, contracts_text, count_line, shown_name, unused_line};
-ghost use Rattle.act_top.specs.Written.{Writes, faults_after};
+ghost use Rattle.act_top.specs.Check.{check_meaning, check_text, contract_line, contracts_text, count_line, shown_name, unused_line};
 
-use crate::line::push_line;
-use crate::writing::{Stop, write_text};
-use act_io::Sink;
+use act_engine::{Failure, Halt, Status, write_line};
+use act_io::{Files, Sink};
+use act_job::read_portfolio;
 use act_model::{Kind, Names};
 use act_portfolio::Portfolio;
 use act_text::contract_name;
 use itoa::Buffer;
 use std::alloc::Global;
 
-/// Writes how many contracts of a portfolio have a name, and each of them.
-pub(crate) fn write_check<K: Sink>(
+/// Runs `check P`: writes how many contracts of the portfolio have a name, and each of them, with the names that they don't use.
+pub(crate) fn run_check<'a, F: Files, K: Sink>(
     alloc: Global,
+    files: &mut F,
     out: &mut K,
-    portfolio: &Portfolio,
-) -> Result<(), Stop>
-    ensures text { Writes result (check_text portfolio.now) (K.written out.old) (K.written out.new) }
-    ensures faults { K.faults out.new ≡ faults_after result (K.faults out.old) }
+    portfolio: &'a str,
+) -> Result<Status, Halt<'a>>
+    ensures { (rows : ℕ) → Goes (check_meaning portfolio.now) (record { world = F.world files.old; page = K.page out.old; rows = rows })
+        (read_of result) None (record { world = F.world files.new; page = K.page out.new; rows = rows }) }
 {
-    let names = portfolio.into_names()?;
+    let portfolio = read_portfolio(alloc, files, portfolio)?;
+    write_check(alloc, out, &portfolio)?;
+    Ok(Status::Done)
+}
+
+/// Writes how many contracts of a portfolio have a name, and each of them.
+fn write_check<K: Sink>(alloc: Global, out: &mut K, portfolio: &Portfolio) -> Result<(), Failure>
+    ensures { Writes (check_text portfolio.now) (K.page out.old) result (K.page out.new) }
+{
+    let names = portfolio.to_names()?;
     let mut line = Vec::new(alloc);
     let written = write_portfolio(out, &mut line, portfolio, &names);
     drop(names);
@@ -39,24 +50,22 @@ fn write_portfolio<K: Sink>(
     line: &mut Vec<u8>,
     portfolio: &Portfolio,
     names: &Names,
-) -> Result<(), Stop>
+) -> Result<(), Failure>
     requires names { names.now ≡ portfolio.now.names }
-    ensures text { Writes result (check_text portfolio.now) (K.written out.old) (K.written out.new) }
-    ensures faults { K.faults out.new ≡ faults_after result (K.faults out.old) }
+    ensures { Writes (check_text portfolio.now) (K.page out.old) result (K.page out.new) }
 {
     write_count(out, line, portfolio.named())?;
     write_contracts(out, line, portfolio, names)
 }
 
 /// Writes how many contracts have a name.
-#[tactic(auto, unfolding(crate::specs::Output::count_line))]
-fn write_count<K: Sink>(out: &mut K, line: &mut Vec<u8>, count: u32) -> Result<(), Stop>
-    ensures text { Writes result (count_line count) (K.written out.old) (K.written out.new) }
-    ensures faults { K.faults out.new ≡ faults_after result (K.faults out.old) }
+#[tactic(auto, unfolding(crate::specs::Check::count_line))]
+fn write_count<K: Sink>(out: &mut K, line: &mut Vec<u8>, count: u32) -> Result<(), Failure>
+    ensures { Writes (count_line count) (K.page out.old) result (K.page out.new) }
 {
     let mut digits = Buffer::new();
     let count = digits.format(count);
-    write_words(out, line, b"portfolio", &[b"ok", count.as_bytes()])
+    write_line(out, line, b"portfolio", &[b"ok", count.as_bytes()])
 }
 
 /// Writes each contract.
@@ -65,11 +74,9 @@ fn write_contracts<K: Sink>(
     line: &mut Vec<u8>,
     portfolio: &Portfolio,
     names: &Names,
-) -> Result<(), Stop>
+) -> Result<(), Failure>
     requires names { names.now ≡ portfolio.now.names }
-    ensures text { Writes result (contracts_text portfolio.now 0 portfolio.now.contracts.terms portfolio.now.names.contracts portfolio.now.unused)
-        (K.written out.old) (K.written out.new) }
-    ensures faults { K.faults out.new ≡ faults_after result (K.faults out.old) }
+    ensures { Writes (contracts_text portfolio.now 0 portfolio.now.contracts.terms portfolio.now.names.contracts portfolio.now.unused) (K.page out.old) result (K.page out.new) }
 {
     for contract in 0..portfolio.named() {
         let id = contract_name(names, contract);
@@ -88,10 +95,8 @@ fn write_contract<K: Sink>(
     kind: &Kind,
     count: u64,
     unused: &[String],
-) -> Result<(), Stop>
-    ensures text { Writes result (contract_line id.now (type_name (type_of kind.now)) count ++ flat_map unused_line (map string_bytes unused.now))
-        (K.written out.old) (K.written out.new) }
-    ensures faults { K.faults out.new ≡ faults_after result (K.faults out.old) }
+) -> Result<(), Failure>
+    ensures { Writes (contract_line id.now (type_name (type_of kind.now)) count ++ flat_map unused_line (map string_bytes unused.now)) (K.page out.old) result (K.page out.new) }
 {
     let kind = kind.contract_type().name();
     write_contract_line(out, line, id, kind.as_bytes(), count)?;
@@ -99,20 +104,19 @@ fn write_contract<K: Sink>(
 }
 
 /// Writes the line of a contract: its name, its kind and its scheduled count.
-#[tactic(auto, unfolding(crate::specs::Output::contract_line))]
+#[tactic(auto, unfolding(crate::specs::Check::contract_line))]
 fn write_contract_line<'a, K: Sink>(
     out: &mut K,
     line: &mut Vec<u8>,
     id: &'a str,
     kind: &'a [u8],
     count: u64,
-) -> Result<(), Stop>
-    ensures text { Writes result (contract_line id.now kind.now count) (K.written out.old) (K.written out.new) }
-    ensures faults { K.faults out.new ≡ faults_after result (K.faults out.old) }
+) -> Result<(), Failure>
+    ensures { Writes (contract_line id.now kind.now count) (K.page out.old) result (K.page out.new) }
 {
     let mut digits = Buffer::new();
     let count = digits.format(count);
-    write_words(
+    write_line(
         out,
         line,
         b"contract",
@@ -121,9 +125,8 @@ fn write_contract_line<'a, K: Sink>(
 }
 
 /// Writes each name that isn't used.
-fn write_unused<K: Sink>(out: &mut K, line: &mut Vec<u8>, names: &[String]) -> Result<(), Stop>
-    ensures text { Writes result (flat_map unused_line (map string_bytes names.now)) (K.written out.old) (K.written out.new) }
-    ensures faults { K.faults out.new ≡ faults_after result (K.faults out.old) }
+fn write_unused<K: Sink>(out: &mut K, line: &mut Vec<u8>, names: &[String]) -> Result<(), Failure>
+    ensures { Writes (flat_map unused_line (map string_bytes names.now)) (K.page out.old) result (K.page out.new) }
 {
     for name in names {
         write_unused_name(out, line, name.as_bytes())?;
@@ -132,27 +135,11 @@ fn write_unused<K: Sink>(out: &mut K, line: &mut Vec<u8>, names: &[String]) -> R
 }
 
 /// Writes a name that isn't used.
-#[tactic(auto, unfolding(crate::specs::Output::unused_line))]
-fn write_unused_name<K: Sink>(out: &mut K, line: &mut Vec<u8>, name: &[u8]) -> Result<(), Stop>
-    ensures text { Writes result (unused_line name.now) (K.written out.old) (K.written out.new) }
-    ensures faults { K.faults out.new ≡ faults_after result (K.faults out.old) }
+#[tactic(auto, unfolding(crate::specs::Check::unused_line))]
+fn write_unused_name<K: Sink>(out: &mut K, line: &mut Vec<u8>, name: &[u8]) -> Result<(), Failure>
+    ensures { Writes (unused_line name.now) (K.page out.old) result (K.page out.new) }
 {
-    write_words(out, line, b"unused", &[shown_name(name)])
-}
-
-/// Writes a line of a word and others, each of these behind a space.
-pub(crate) fn write_words<K: Sink>(
-    out: &mut K,
-    line: &mut Vec<u8>,
-    word: &[u8],
-    others: &[&[u8]],
-) -> Result<(), Stop>
-    ensures text { Writes result (line_of word.now (map (λ w. w.now) others.now)) (K.written out.old) (K.written out.new) }
-    ensures faults { K.faults out.new ≡ faults_after result (K.faults out.old) }
-{
-    line.clear();
-    push_line(line, word, others)?;
-    write_text(out, line)
+    write_line(out, line, b"unused", &[shown_name(name)])
 }
 
 /// A name of printable characters without space as it is, and any other as `?`.

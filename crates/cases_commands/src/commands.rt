@@ -2,9 +2,10 @@
 ghost use Rattle.std.specs.Prelude.{◌≡◌, ◌<◌};
 
 use crate::failing::each_told;
+use act_engine::Status;
 use act_io::{Files, MemFiles, MemSink, Sink};
 use act_num::Steps;
-use act_top::{Status, eval_top};
+use act_top::eval_top;
 use cases_rows::{Case, change, parts_around, rows_told};
 use std::alloc::Global;
 use std::marker::Brand;

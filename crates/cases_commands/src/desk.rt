@@ -3,6 +3,7 @@ ghost use Rattle.std.specs.Prelude.{◌≡◌, ◌<◌};
 
 use crate::commands::{files_named, words_of};
 use crate::meeting::Meeting;
+use act_desk::Context;
 use act_io::{Files, Gate, MemFiles, MemSink, NoGate};
 use act_num::Steps;
 use act_top::{Ran, actus_top, desk_top};
@@ -62,7 +63,12 @@ fn at_desk<R: Threads + Wait + Sync, F: Files, G: Gate>(
     let list = files_named(case, files, line);
     let mut files = MemFiles::new(case.alloc, list, Vec::new(case.alloc));
     let mut out = MemSink::new(case.alloc, Vec::new(case.alloc));
-    let ran = desk_top(rt, case.alloc, &words, &mut files, &mut out, gate);
+    let context = Context {
+        rt,
+        alloc: case.alloc,
+        gate,
+    };
+    let ran = desk_top(&context, &words, &mut files, &mut out);
     (end_of(ran), out)
 }
 
@@ -95,7 +101,12 @@ fn run<L: Ledger, R: Threads + Wait + Sync>(
     requires some_parts { 0 < L.parts }
 {
     let mut steps = Steps::<L>::new(blank);
-    actus_top(rt, alloc, words, files, out, &NoGate, &mut steps)
+    let context = Context {
+        rt,
+        alloc,
+        gate: &NoGate,
+    };
+    actus_top(&context, words, files, out, &mut steps)
 }
 
 /// How a command ended.

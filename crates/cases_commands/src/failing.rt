@@ -1,7 +1,7 @@
 //! Commands of which each put fails in turn.
 use crate::commands::{ended, files_named};
+use act_engine::Status;
 use act_io::{Files, MemFiles, MemSink};
-use act_top::Status;
 use cases_rows::Case;
 
 /// No command of a row makes more calls.

@@ -13,9 +13,7 @@ struct Narrow {
 }
 
 impl Sink for Narrow {
-    ghost written = { λ _. None };
-
-    ghost faults = { λ _. 0 };
+    ghost page = { λ _. record { written = None; faults = 0 } };
 
     fn put(&mut self, piece: &[u8]) -> Result<usize, PutFault> {
         let [first, ..] = piece else {

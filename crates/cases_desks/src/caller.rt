@@ -9,7 +9,8 @@ ghost use Rattle.cases_desks.specs.Caller.{Plays, asked_of, had_of};
 
 use crate::heard::Heard;
 use act_board::{AskFault, Claim, Collected, Done, Task};
-use act_desk::{Desk, DeskPass};
+use act_desk::{Context, Desk, DeskPass};
+use act_io::NoGate;
 use act_model::{Answer, Asked, Obs, Step};
 use act_num::{NoMemory, Steps};
 use act_portfolio::Portfolio;
@@ -24,8 +25,7 @@ const MOST_OPEN: u32 = 256;
 /// Where calls are made: a desk, and its portfolio.
 #[derive(Drop)]
 pub struct At<'a, R> {
-    pub rt: &'a R,
-    pub alloc: Global,
+    pub context: &'a Context<'a, R, NoGate>,
     pub desk: &'a Desk,
     pub portfolio: &'a Portfolio,
     ghost of_desk: { portfolio.now ≡ desk.now.portfolio },
@@ -50,7 +50,7 @@ impl Caller<'_> {
         ensures { Plays at.now.desk.now pass.new self.new.number self.new.open_asks }
     {
         let step = appending(&entry);
-        let answer = at.desk.append(at.rt, pass, self.number, entry);
+        let answer = at.desk.append(at.context.rt, pass, self.number, entry);
         self.heard.step(step, answer);
     }
 
@@ -60,7 +60,7 @@ impl Caller<'_> {
         ensures { Plays at.now.desk.now pass.new self.new.number self.new.open_asks }
     {
         if self.open_asks < MOST_OPEN && is_named(at.portfolio, asked) {
-            let answer = at.desk.ask(at.rt, pass, self.number, asked);
+            let answer = at.desk.ask(at.context.rt, pass, self.number, asked);
             self.open_asks += asks_made(&answer);
             self.heard
                 .step(Step::Ask(asked), answer.map(|number| u64::from(number)));
@@ -72,11 +72,11 @@ impl Caller<'_> {
         requires { Plays at.now.desk.now pass.old self.old.number self.old.open_asks }
         ensures { Plays at.now.desk.now pass.new self.new.number self.new.open_asks }
     {
-        let claim = at.desk.claim(at.rt, pass);
+        let claim = at.desk.claim(at.context.rt, pass);
         if let Some(task) = task_of(claim, &mut self.heard) {
-            match made::<Brand>(at.alloc, task, at.portfolio, Blank::new(1)) {
-                Ok(done) => at.desk.finish(at.rt, pass, done),
-                Err(task) => at.desk.give_up(at.rt, pass, Some(task)),
+            match made::<Brand>(at.context.alloc, task, at.portfolio, Blank::new(1)) {
+                Ok(done) => at.desk.finish(at.context.rt, pass, done),
+                Err(task) => at.desk.give_up(at.context.rt, pass, Some(task)),
             }
         }
     }
@@ -89,7 +89,7 @@ impl Caller<'_> {
         if self.open_asks == 0 {
             return false;
         }
-        let collected = at.desk.collect(at.rt, pass, self.number);
+        let collected = at.desk.collect(at.context.rt, pass, self.number);
         match answer_of(collected, &mut self.heard) {
             Some(answer) => {
                 self.open_asks -= 1;
@@ -106,7 +106,7 @@ impl Caller<'_> {
         requires { Plays at.now.desk.now pass.old self.old.number self.old.open_asks }
         ensures { Plays at.now.desk.now pass.new self.new.number self.new.open_asks }
     {
-        for _ in at.rt.forever() {
+        for _ in at.context.rt.forever() {
             if self.open_asks == 0 || self.heard.is_over {
                 break;
             }
@@ -122,10 +122,10 @@ impl Caller<'_> {
         ensures { IsFree at.now.desk.now.id pass.new }
     {
         if self.open_asks == 0 {
-            at.desk.leave(at.rt, pass, self.number);
+            at.desk.leave(at.context.rt, pass, self.number);
         } else {
-            at.desk.give_up(at.rt, pass, None);
-            at.desk.leave(at.rt, pass, self.number);
+            at.desk.give_up(at.context.rt, pass, None);
+            at.desk.leave(at.context.rt, pass, self.number);
         }
     }
 }

@@ -9,7 +9,7 @@ use crate::draws::Draws;
 use crate::heard::{Heard, wanted};
 use crate::sessions::{play, script_of};
 use act_board::Board;
-use act_desk::{Desk, DeskPass};
+use act_desk::{Context, Desk, DeskPass};
 use act_io::NoGate;
 use act_model::{Answer, Asked, Item, Names};
 use act_portfolio::Portfolio;
@@ -33,7 +33,12 @@ pub fn drive_told<R: Threads + Wait + Sync>(
     if heards.is_empty() || heards.len() > 16 || workers > 64 || calls > 60_000 {
         return case.fail("a size is out of range, or memory ran out");
     }
-    match driven(rt, case.alloc, portfolio, names, &heards, workers, calls) {
+    let context = Context {
+        rt,
+        alloc: case.alloc,
+        gate: &NoGate,
+    };
+    match driven(&context, portfolio, names, &heards, workers, calls) {
         Some(board) => replay_told(rt, case, portfolio, names, &heards, board.journal()),
         None => case.fail("memory ran out"),
     }
@@ -52,8 +57,7 @@ fn heards<'a>(alloc: Global, names: &'a Names, callers: u32) -> Vec<Mutex<Heard<
 
 /// The board of a desk with a thread for each caller and worker.
 fn driven<'a, R: Threads + Wait + Sync>(
-    rt: &R,
-    alloc: Global,
+    context: &Context<'_, R, NoGate>,
     portfolio: &Arc<Portfolio, Global>,
     names: &'a Names,
     heards: &[Mutex<Heard<'a>>],
@@ -66,15 +70,15 @@ fn driven<'a, R: Threads + Wait + Sync>(
     requires few_calls { calls ≤ 60_000 }
 {
     let own = Arc::try_clone(portfolio).ok()?;
-    let Some(quotas) = quotas_of(alloc, heards.len(), calls) else {
+    let Some(quotas) = quotas_of(context.alloc, heards.len(), calls) else {
         return None;
     };
-    let Ok((desk, mut passes)) = Desk::new(alloc, own, &quotas, workers) else {
+    let Ok((desk, mut passes)) = Desk::new(context.alloc, own, &quotas, workers) else {
         return None;
     };
     let count = passes.len();
     for_each_mut(
-        rt,
+        context.rt,
         passes.as_mut_slice(),
         count,
         &|i: usize, pass: &mut DeskPass|
@@ -82,8 +86,7 @@ fn driven<'a, R: Threads + Wait + Sync>(
             ensures { IsFree desk.id pass.exit.now }
         {
             let at = At {
-                rt,
-                alloc,
+                context,
                 desk: &desk,
                 portfolio,
             };
@@ -118,12 +121,12 @@ fn act<'a, R: Wait>(
         let mut caller = Caller {
             number,
             open_asks: 0,
-            heard: Heard::new(at.alloc, names),
+            heard: Heard::new(at.context.alloc, names),
         };
         call(at, pass, &mut caller, calls);
-        *heards[number as usize - 1].lock(at.rt) = caller.heard;
+        *heards[number as usize - 1].lock(at.context.rt) = caller.heard;
     } else {
-        let _ = at.desk.worker(at.rt, at.alloc, pass, &NoGate);
+        let _ = at.desk.worker(at.context, pass);
     }
 }
 

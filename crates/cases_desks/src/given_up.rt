@@ -6,7 +6,8 @@ ghost use Rattle.cases_desks.specs.Caller.{Plays};
 use crate::caller::{At, Caller, task_of};
 use crate::draws::Draws;
 use crate::heard::Heard;
-use act_desk::{Desk, DeskPass};
+use act_desk::{Context, Desk, DeskPass};
+use act_io::NoGate;
 use act_model::{Asked, Names};
 use act_portfolio::Portfolio;
 use cases_rows::Case;
@@ -49,9 +50,13 @@ fn steps<R: Wait>(
     let own = Arc::try_clone(portfolio).ok()?;
     match Desk::new(alloc, own, &[2], 1) {
         Ok((desk, mut passes)) => {
-            let at = At {
+            let context = Context {
                 rt,
                 alloc,
+                gate: &NoGate,
+            };
+            let at = At {
+                context: &context,
                 desk: &desk,
                 portfolio,
             };
@@ -82,11 +87,11 @@ fn give_up_task<R: Wait>(at: &At<'_, R>, pass: &mut DeskPass, heard: &mut Heard<
     requires { IsFree at.now.desk.now.id pass.old }
     ensures { IsFree at.now.desk.now.id pass.new }
 {
-    let task = task_of(at.desk.claim(at.rt, pass), heard);
+    let task = task_of(at.desk.claim(at.context.rt, pass), heard);
     heard.steps.text("a task is given up: ");
     heard.steps.value(task.is_some());
     heard.steps.text("\n");
-    at.desk.give_up(at.rt, pass, task);
+    at.desk.give_up(at.context.rt, pass, task);
 }
 
 /// Appends an entry, asks for all, claims, collects and leaves.

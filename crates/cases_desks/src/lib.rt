@@ -50,7 +50,7 @@ fn of_portfolio<R: Threads + Wait + Sync>(
     portfolio: &Arc<Portfolio, Global>,
     call: &str,
 ) {
-    match portfolio.into_names() {
+    match portfolio.to_names() {
         Ok(names) => of_names(rt, case, portfolio, &names, call),
         Err(_) => case.fail("memory ran out"),
     }

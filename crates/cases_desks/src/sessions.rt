@@ -9,6 +9,7 @@ ghost use Rattle.cases_desks.specs.Script.{IsShort};
 use crate::caller::is_named;
 use act_board::Board;
 use act_date::Day;
+use act_desk::Context;
 use act_io::NoGate;
 use act_model::{Answer, Asked, Close, Item, Line, Obs, ObsKind, Step};
 use act_num::Fixed;
@@ -190,5 +191,10 @@ pub fn play<R: Threads + Wait + Sync>(
     requires { ArePlayable (arc_value portfolio.now) (lines_of scripts.now) }
 {
     let own = Arc::try_clone(portfolio).ok()?;
-    session(rt, alloc, own, scripts, 0, &NoGate).ok()
+    let context = Context {
+        rt,
+        alloc,
+        gate: &NoGate,
+    };
+    session(&context, own, scripts, 0).ok()
 }

@@ -1,9 +1,7 @@
 //! Runs that go on from what is kept of a run at another version.
-ghost use Rattle.std.specs.Prelude.{◌≡◌, ◌<◌, ◌≤◌, length, map, Ok, IfOk};
+ghost use Rattle.std.specs.Prelude.{◌≡◌, ◌<◌, ◌≤◌, length, map, IfOk};
 ghost use Rattle.std.specs.Arc.{arc_value};
 ghost use Rattle.std.specs.List.{All};
-ghost use Rattle.act_profile.specs.Built.{IsBuilt};
-ghost use Rattle.act_profile.specs.Plan.{plan_of};
 ghost use Rattle.act_profile.specs.DayOrder.{AreInDayOrder, RunsAreInDayOrder};
 
 use crate::kept::{kept_told, portfolio};
@@ -13,10 +11,10 @@ use crate::shadows::shadow_told;
 use act_cut::cut;
 use act_date::Day;
 use act_io::Files;
-use act_model::{Line, Listed, Obs, Observed, Plan, Run, Step, Terms};
+use act_model::{Line, Listed, Obs, Observed, Run, Step};
 use act_num::{NoMemory, Steps};
 use act_portfolio::Portfolio;
-use act_run::{evaluate, kept_rows, resume, resume_shared};
+use act_run::{Inputs, evaluate, kept_rows, resume, resume_shared};
 use cases_rows::Case;
 use std::alloc::Global;
 use std::marker::{Brand, Model};
@@ -42,6 +40,14 @@ impl Model for Evaluated {
     ghost view = { λ e. arc_value e.run };
 
     ghost invariant = { λ e. AreInDayOrder (arc_value e.run).rows };
+}
+
+/// The runs of a portfolio's contracts over entries, in the order of evaluation.
+#[derive(Clone, Copy)]
+struct Runs<'a> {
+    portfolio: &'a Portfolio,
+    seen: &'a Listed,
+    runs: &'a [Evaluated],
 }
 
 /// Tells what a call answers.
@@ -85,7 +91,7 @@ fn resumed_told(case: &mut Case<'_>, portfolio: &Portfolio) {
 /// The entries that a script appends.
 fn entries_of(case: &mut Case<'_>, portfolio: &Portfolio, script: &[u8]) -> Vec<Obs> {
     let mut entries = Vec::new(case.alloc);
-    match portfolio.into_names() {
+    match portfolio.to_names() {
         Ok(mut names) => match read(case.alloc, script, &mut names, portfolio.terms(), &mut 0) {
             Ok(lines) => push_entries(case, &lines, &mut entries),
             Err(_) => case.fail("the script is refused"),
@@ -129,17 +135,28 @@ fn versions_told<L: Ledger>(
     both_told(case, portfolio, &before, &after, &mut steps).ok()
 }
 
-fn both_told<L: Ledger>(
+/// Tells of all contracts, over the entries before and after.
+fn both_told<'a, L: Ledger>(
     case: &mut Case<'_>,
-    portfolio: &Portfolio,
-    before: &Listed,
-    after: &Listed,
+    portfolio: &'a Portfolio,
+    before: &'a Listed,
+    after: &'a Listed,
     steps: &mut Steps<L>,
 ) -> Result<(), NoMemory>
     requires { length before.now ≤ length after.now }
 {
     let old = all_runs(case.alloc, portfolio, before, steps)?;
     let new = all_runs(case.alloc, portfolio, after, steps)?;
+    let old = Runs {
+        portfolio,
+        seen: before,
+        runs: &old,
+    };
+    let new = Runs {
+        portfolio,
+        seen: after,
+        runs: &new,
+    };
     for contract in 0..portfolio.terms().len() {
         let contract = contract as u32;
         let cut = cut(
@@ -149,9 +166,9 @@ fn both_told<L: Ledger>(
             after.version(),
         );
         case.next("; ");
-        one_told(case, portfolio, contract, &old, &new, &cut, after, steps)?;
+        one_told(case, contract, &old, &new, &cut, steps)?;
         case.text(", ");
-        one_told(case, portfolio, contract, &new, &old, &cut, before, steps)?;
+        one_told(case, contract, &new, &old, &cut, steps)?;
     }
     Ok(())
 }
@@ -159,42 +176,36 @@ fn both_told<L: Ledger>(
 /// Tells how many rows are kept and of how many, where a contract's run goes on.
 fn one_told<L: Ledger>(
     case: &mut Case<'_>,
-    portfolio: &Portfolio,
     contract: u32,
-    from: &[Evaluated],
-    to: &[Evaluated],
+    from: &Runs<'_>,
+    to: &Runs<'_>,
     cut: &Option<Day>,
-    seen: &Listed,
     steps: &mut Steps<L>,
 ) -> Result<(), NoMemory>
-    requires { contract < length portfolio.now.contracts.terms }
+    requires from { contract < length from.now.portfolio.now.contracts.terms }
+    requires to { contract < length to.now.portfolio.now.contracts.terms }
 {
-    let children = runs_at(case.alloc, portfolio, to, portfolio.children(contract))?;
-    let kept = run_at(portfolio, from, contract)?;
-    let terms = &portfolio.terms()[contract as usize];
-    let plan = portfolio.plan(contract);
-    resumed_by_terms(case, terms, plan, &children, &kept, cut, seen, steps)
+    let portfolio = to.portfolio;
+    let children = runs_at(case.alloc, portfolio, to.runs, portfolio.children(contract))?;
+    let kept = run_at(from.portfolio, from.runs, contract)?;
+    let inputs = inputs_of(portfolio, contract, &children, to.seen);
+    resumed_run_told(case, &inputs, &kept, cut, steps)
 }
 
-fn resumed_by_terms<L: Ledger>(
+/// Tells the same of a run that goes on from another, and whether it differs from the run from inception.
+fn resumed_run_told<L: Ledger>(
     case: &mut Case<'_>,
-    terms: &Terms,
-    plan: &Plan,
-    children: &[Arc<Run, Global>],
+    inputs: &Inputs<'_, Listed>,
     kept: &Arc<Run, Global>,
     cut: &Option<Day>,
-    seen: &Listed,
     steps: &mut Steps<L>,
 ) -> Result<(), NoMemory>
-    requires built { IsBuilt terms.now.kind }
-    requires plan { plan_of terms.now ≡ Ok plan.now }
-    requires children { RunsAreInDayOrder (map arc_value children.now) }
-    requires kept { AreInDayOrder (arc_value kept.now).rows }
+    requires { AreInDayOrder (arc_value kept.now).rows }
 {
-    let run = evaluate(case.alloc, terms, plan, children, seen, steps)?;
+    let run = evaluate(case.alloc, inputs, steps)?;
     if keep_the_same(case.alloc, kept, &run, *cut)? {
-        let resumed = resume(case.alloc, terms, plan, children, kept, *cut, seen, steps)?;
-        let shared = resume_shared(case.alloc, terms, plan, children, kept, *cut, seen, steps)?;
+        let resumed = resume(case.alloc, inputs, kept, *cut, steps)?;
+        let shared = resume_shared(case.alloc, inputs, kept, *cut, steps)?;
         if !are_same(&resumed, &run) || !are_same(&shared, &run) {
             case.text("differs from ");
         }
@@ -234,11 +245,28 @@ fn run_of<L: Ledger>(
     requires { contract < length portfolio.now.contracts.terms }
 {
     let children = runs_at(alloc, portfolio, runs, portfolio.children(contract))?;
-    let terms = &portfolio.terms()[contract as usize];
-    let plan = portfolio.plan(contract);
-    let run = evaluate(alloc, terms, plan, &children, seen, steps)?;
+    let inputs = inputs_of(portfolio, contract, &children, seen);
+    let run = evaluate(alloc, &inputs, steps)?;
     let run = Arc::new(alloc, run)?;
     Ok(Evaluated { run })
+}
+
+/// What the run of a contract is a function of.
+fn inputs_of<'a>(
+    portfolio: &'a Portfolio,
+    contract: u32,
+    children: &'a [Arc<Run, Global>],
+    seen: &'a Listed,
+) -> Inputs<'a, Listed>
+    requires contract { contract < length portfolio.now.contracts.terms }
+    requires children { RunsAreInDayOrder (map arc_value children.now) }
+{
+    Inputs {
+        terms: &portfolio.terms()[contract as usize],
+        plan: portfolio.plan(contract),
+        children,
+        seen,
+    }
 }
 
 /// The runs of contracts, each of which has one.

@@ -8,7 +8,7 @@ use act_date::parse_day;
 use act_model::{Common, Kind, Listed, Loan, Names, Obs, ObsKind, Pam, Plan, Run, Terms};
 use act_num::{Fixed, NoMemory, Steps};
 use act_portfolio::Portfolio;
-use act_run::evaluate;
+use act_run::{Inputs, evaluate};
 use act_text::{close_line, row_line};
 use cases_rows::{Case, number_of, rows_told};
 use std::alloc::Global;
@@ -107,7 +107,13 @@ fn run<L: Ledger>(
     requires some_parts { 0 < L.parts }
 {
     let (seen, mut steps) = (seen?, Steps::<L>::new(blank));
-    evaluate(alloc, loan, plan, &[], &seen, &mut steps).ok()
+    let inputs = Inputs {
+        terms: loan,
+        plan,
+        children: &[],
+        seen: &seen,
+    };
+    evaluate(alloc, &inputs, &mut steps).ok()
 }
 
 /// Tells the rows of a run, whose currency is the number 0.

@@ -2,10 +2,11 @@
 ghost use Rattle.std.specs.Prelude.{◌≡◌, ◌<◌};
 
 use crate::lists::{Shelf, push_words, shelf, text};
+use act_engine::Status;
 use act_io::{Files, MemFiles, MemSink};
 use act_model::{Item, Names, Obs, ObsKind, Step};
 use act_num::Steps;
-use act_top::{Status, eval_top};
+use act_top::eval_top;
 use cases_rows::{Case, entry_told, name_told, step_told};
 use std::alloc::Global;
 use std::marker::Brand;

@@ -2,7 +2,8 @@
 ghost use Rattle.std.specs.Prelude.{◌≡◌, ◌<◌};
 
 use crate::lists::{Shelf, push_words, shelf};
-use act_audit::{Status, audit_top};
+use act_audit::audit_top;
+use act_engine::Status;
 use act_io::{Files, MemFiles, MemSink};
 use act_num::Steps;
 use cases_rows::Case;

@@ -1,5 +1,6 @@
 //! The desk, over files and a sink in memory.
 use crate::lists::{push_words, shelf};
+use act_desk::Context;
 use act_io::{Files, MemFiles, MemSink, NoGate};
 use act_top::{Ran, desk_top};
 use cases_rows::Case;
@@ -24,6 +25,11 @@ pub fn by_desk<R: Threads + Wait + Sync, F: Files>(
     let list = shelf(case, files, folder, FILES);
     let mut files = MemFiles::new(case.alloc, list, Vec::new(case.alloc));
     let mut sink = MemSink::new(case.alloc, Vec::new(case.alloc));
-    let ran = desk_top(rt, case.alloc, &words, &mut files, &mut sink, &NoGate);
+    let context = Context {
+        rt,
+        alloc: case.alloc,
+        gate: &NoGate,
+    };
+    let ran = desk_top(&context, &words, &mut files, &mut sink);
     (ran, sink)
 }

@@ -7,7 +7,7 @@ use Rattle.act_audit.proofs.answers.by_caller.Goals as goal
 use Rattle.act_audit.proofs.answers.by_caller.Goals.{in-Ask+in-Some+in_ok-push_answer, in_default}
 use Rattle.act_model.specs.Answer.{Reply}
 use Rattle.act_model.specs.declared.journal.Item.{Item}
-use Rattle.act_top.proofs.Texts.{drop-next, drop-past}
+use Rattle.act_engine.proofs.Lists.{drop-next, drop-past}
 
 pub loop-item-preserved : goal.loop-item-preserved
 loop-item-preserved c =

@@ -1,15 +1,18 @@
-use Rattle.std.proofs.Common.{◌≡◌, ◌∷◌, [], length, sym, ap, subst, ◌∙◌, ℕ}
-use Rattle.std.specs.List.{All}
+use Rattle.std.proofs.Common.{◌≡◌, ◌∷◌, [], count_by, length, ap, arith}
 use Rattle.std.proofs.lemmas.List.Elements.{All-cons, All-nil}
-use Rattle.std.proofs.lemmas.List.FromFn.{length-map-range_with_len}
+use Rattle.std.proofs.lemmas.List.Sums.{sum_by-cons}
 use Rattle.act_audit.proofs.journal.ask_past.Goals as goal
-use Rattle.act_cones.specs.Counts.{cone_sum}
+use Rattle.act_model.specs.Journal.{is_append}
+use Rattle.act_model.specs.declared.journal.Line.{Line}
 use Rattle.act_script.specs.Asks.{AsksBelow, line_lists}
 
-pub weigh-requires-clause-contracts : goal.weigh-requires-clause-contracts
-weigh-requires-clause-contracts c =
-    let p = c.args.portfolio.now in
-    let all : length c.deref.result.now ≡ length p.names.contracts =
-    ap length (c.deref.ensures.value ∙ c.in_ok-weights.ensures.each) ∙ length-map-range_with_len (cone_sum p.contracts) 0 (length p.names.contracts) in
-    let scripts : line_lists c.from_ref-scripts.result.now ≡ c.args.script.now.items ∷ [] = ap line_lists c.from_ref-scripts.ensures.value in
-    rw scripts (subst (λ (n : ℕ). All (AsksBelow n) (c.args.script.now.items ∷ [])) (sym all) (All-cons (AsksBelow (length p.names.contracts)) c.args.script.now.items [] c.requires.contracts (All-nil (AsksBelow (length p.names.contracts)))))
+pub first_overweight-requires-clause-contracts : goal.first_overweight-requires-clause-contracts
+first_overweight-requires-clause-contracts c =
+    let below = AsksBelow (length c.args.portfolio.now.names.contracts) in
+    let scripts : line_lists c.from_ref.result.now ≡ c.args.script.now.items ∷ [] = ap line_lists c.from_ref.ensures.value in
+    rw scripts (All-cons below c.args.script.now.items [] c.requires.contracts (All-nil below))
+
+pub first_overweight-requires-clause-few : goal.first_overweight-requires-clause-few
+first_overweight-requires-clause-few c =
+    let scripts : line_lists c.from_ref.result.now ≡ c.args.script.now.items ∷ [] = ap line_lists c.from_ref.ensures.value in
+    rw scripts (omega (arith, sum_by-cons (count_by (λ (line : Line). is_append line.step)) c.args.script.now.items [], c.requires.few))

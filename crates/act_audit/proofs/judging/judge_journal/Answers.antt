@@ -1,37 +1,85 @@
-use Rattle.std.proofs.Common.{◌≡◌, IfOk, List, Some, length, rules, sym, ap, subst, ◌∙◌}
-use Rattle.act_audit.specs.Journal.{first_past, one_script}
+use Rattle.std.proofs.Common.{◌≡◌, ◌≢◌, ◌+◌, ℕ, IfOk, List, Some, length, refl, sym, ap, subst, ◌∙◌}
+use Rattle.std.specs.Arc.{arc_value}
 use Rattle.std.proofs.lemmas.Result.{IfOk-weaker}
-use Rattle.act_audit.specs.Judging.{IsVerdictFor, Journal}
-use Rattle.act_audit.proofs.Judged.{past-verdict}
-use Rattle.act_model.specs.Names.{NameLists}
+use Rattle.act_audit.specs.Journal.{as_one_caller, first_past, one_script, right_text}
+use Rattle.act_audit.specs.Judging.{IsOrdered, IsVerdictFor, Journal}
+use Rattle.act_audit.specs.Text.{first_difference, has_work_line}
+use Rattle.act_audit.proofs.Judged.{all-counted, differs-verdict, none-counted, ordered-verdict, past-verdict}
 use Rattle.act_audit.proofs.Readiness.{asks-below, ready-of}
 use Rattle.act_audit.proofs.judging.judge_journal.Goals as goal
+use Rattle.act_audit.proofs.judging.judge_journal.Goals.{In_ok-line, In_ok-line-2}
+use Rattle.act_eval.specs.Work.{work_of}
+use Rattle.act_model.specs.Names.{NameLists}
+use Rattle.act_model.specs.declared.journal.Item.{Item}
 use Rattle.act_model.specs.declared.journal.Line.{Line}
+use Rattle.act_portfolio.specs.Reading.{Accepted}
 use Rattle.act_script.specs.Asks.{AsksBelow, line_lists}
 
 pub first_past-requires-clause-contracts : goal.first_past-requires-clause-contracts
 first_past-requires-clause-contracts g c =
-    let portfolio = c.args.portfolio in
-    let journal = c.args.journal in
-    let lines : c.in_ok-lines.lines.items ≡ one_script journal.items = c.in_ok-lines.ensures ∙ (ap one_script c.deref.ensures.value ∙ ap (λ (j : Journal). one_script j.items) c.journal.view_is) in
-    subst (λ (ls : List Line). AsksBelow (length portfolio.names.contracts) ls) (sym lines) (asks-below portfolio journal.names journal.items c.requires.items c.requires.contracts)
+    let p = arc_value c.args.portfolio.now in
+    let lines : c.in_ok-lines.lines.items ≡ one_script c.args.journal.items = c.in_ok-lines.ensures ∙ (ap one_script c.deref.ensures.value ∙ ap (λ (j : Journal). one_script j.items) c.journal.view_is) in
+    subst (λ (q : Accepted). AsksBelow (length q.names.contracts) c.in_ok-lines.lines.items) (sym c.deref-2.ensures)
+    (subst (λ (ls : List Line). AsksBelow (length p.names.contracts) ls) (sym lines) (asks-below p c.args.journal.names c.args.journal.items c.requires.items c.requires.contracts))
+
+-- the line that is past what may be asked
+past-is : (g : _) (c : In_ok-line g) → c.in_ok-line.field-0 ≡ first_past (arc_value c.args.portfolio.now) c.args.journal.items
+past-is g c =
+    c.in_ok-line.ensures
+    ∙ (ap (λ (p : Accepted). first_past p c.deref-3.result.now) c.deref-2.ensures ∙ ap (first_past (arc_value c.args.portfolio.now)) (c.deref-3.ensures.value ∙ ap (λ (j : Journal). j.items) c.journal.view_is))
+
+-- the steps that are judged are those of the journal
+items-are : (g : _) (c : In_ok-line-2 g) → c.deref-5.result.now ≡ c.args.journal.items
+items-are g c = c.deref-5.ensures.value ∙ ap (λ (j : Journal). j.items) c.journal.view_is
 
 pub invariant_of-evaluation : goal.invariant_of-evaluation
 invariant_of-evaluation g c =
-    ready-of c.args.portfolio _ c.args.journal c.journal.inside.names c.journal.inside.items.items c.deref.result.now c.deref-2.result.now c.in_ok-lines.lines.items c.entry_count.result c.in_ok-line.field-0
-    c.journal.view_is c.deref.ensures.value c.in_ok-lines.ensures c.deref-2.ensures.value c.in_ok-line.ensures c.in_default.is c.in_ok-portfolio.ensures.ok c.requires.items c.requires.contracts
-
-pub invariant_of-evaluation-in-Some-2 : goal.invariant_of-evaluation-in-Some-2
-invariant_of-evaluation-in-Some-2 g c =
-    ready-of c.args.portfolio _ c.args.journal c.journal.inside.names c.journal.inside.items.items c.deref.result.now c.deref-2.result.now c.in_ok-lines.lines.items c.entry_count.result c.in_ok-line.field-0
-    c.journal.view_is c.deref.ensures.value c.in_ok-lines.ensures c.deref-2.ensures.value c.in_ok-line.ensures c.in_default.is c.in_ok-portfolio.ensures.ok c.requires.items c.requires.contracts
+    ready-of (arc_value c.args.portfolio.now) c.args.journal c.journal.inside.names c.journal.inside.items.items c.deref.result.now c.deref-4.result.now c.journal.view_is c.deref.ensures.value (c.deref-4.ensures.value ∙ c.in_ok-lines.ensures)
+    (sym (past-is g (goal.at.invariant_of-evaluation g c).In_ok-line) ∙ c.in_default.is) c.requires.items c.requires.contracts
 
 pub returns-in-Some-clause-verdict : goal.returns-in-Some-clause-verdict
 returns-in-Some-clause-verdict g c =
-    let portfolio = c.args.portfolio in
-    let journal = c.args.journal in
-    let past : first_past portfolio journal.items ≡ Some c.in-Some.line = search rules in
+    let p = arc_value c.args.portfolio.now in
+    let past : first_past p c.args.journal.items ≡ Some c.in-Some.line = sym (past-is g (goal.at.returns-in-Some-clause-verdict g c).In_ok-line) ∙ c.in-Some.is in
     let text = c.args.text.now in
     let scripts = line_lists c.args.scripts.now in
-    subst (λ (names : NameLists). IfOk c.wrong_at.result (λ verdict. IsVerdictFor portfolio names text scripts journal.items verdict)) (ap (λ (j : Journal). j.names) c.journal.view_is)
-    (IfOk-weaker c.wrong_at.result _ _ (past-verdict portfolio c.journal.inside.names text scripts journal.items c.in-Some.line past) c.wrong_at.ensures)
+    subst (λ (names : NameLists). IfOk c.wrong_at.result (λ verdict. IsVerdictFor p names text scripts c.args.journal.items verdict)) (ap (λ (j : Journal). j.names) c.journal.view_is)
+    (IfOk-weaker c.wrong_at.result _ _ (past-verdict p c.journal.inside.names text scripts c.args.journal.items c.in-Some.line past) c.wrong_at.ensures)
+
+pub returns-in-Some-clause-rows : goal.returns-in-Some-clause-rows
+returns-in-Some-clause-rows g c =
+    none-counted (λ rows. rows ≡ work_of (arc_value c.args.portfolio.now) (as_one_caller c.args.journal.items)) _ c.args.steps.now c.wrong_at.result c.wrong_at.ensures
+
+pub returns-in-Some-2-clause-verdict : goal.returns-in-Some-2-clause-verdict
+returns-in-Some-2-clause-verdict g c =
+    let names = c.journal.inside.names in
+    let judged = goal.at.returns-in-Some-2-clause-verdict g c in
+    let within = sym (past-is g judged.In_ok-line) ∙ c.in_default.is in
+    let here = subst (λ (is : List Item). (c.args.text.now ≢ right_text (arc_value c.args.portfolio.now) names is (has_work_line c.args.text.now)) × (c.in-Some-2.line ≡ first_difference c.args.text.now (right_text (arc_value c.args.portfolio.now) names is (has_work_line c.args.text.now))))
+    (items-are g judged.In_ok-line-2) (rw c.in-Some-2.is at c.in_ok-line-2.ensures.line) in
+    subst (λ (n : NameLists). IfOk c.wrong_at-in-Some-2.result (λ verdict. IsVerdictFor (arc_value c.args.portfolio.now) n c.args.text.now (line_lists c.args.scripts.now) c.args.journal.items verdict)) (ap (λ (j : Journal). j.names) c.journal.view_is)
+    (IfOk-weaker c.wrong_at-in-Some-2.result _ _ (differs-verdict _ _ _ _ _ within c.in-Some-2.line here) c.wrong_at-in-Some-2.ensures)
+
+pub returns-in-Some-2-clause-rows : goal.returns-in-Some-2-clause-rows
+returns-in-Some-2-clause-rows g c =
+    let work : List Item → ℕ = λ items. work_of (arc_value c.args.portfolio.now) (as_one_caller items) in
+    all-counted c.args.steps.now c.difference.new.steps (work c.args.journal.items) c.wrong_at-in-Some-2.result
+    (c.in_ok-line-2.ensures.ticked ∙ ap (λ (is : List Item). c.args.steps.now + work is) (items-are g (goal.at.returns-in-Some-2-clause-rows g c).In_ok-line-2))
+
+pub returns-clause-verdict : goal.returns-clause-verdict
+returns-clause-verdict g c =
+    let p = arc_value c.args.portfolio.now in
+    let text = c.args.text.now in
+    let names = c.journal.inside.names in
+    let judged = goal.at.returns-clause-verdict g c in
+    let same = subst (λ (is : List Item). text ≡ right_text p names is (has_work_line text)) (items-are g judged.In_ok-line-2) (rw c.in-None.is at c.in_ok-line-2.ensures.line) in
+    let ordered = subst (λ (is : List Item). IsOrdered (line_lists c.args.scripts.now) is c.judge_order.result) (c.deref-in-None.ensures.value ∙ ap (λ (j : Journal). j.items) c.journal.view_is) c.judge_order.ensures in
+    subst (λ (n : NameLists). IsVerdictFor p n text (line_lists c.args.scripts.now) c.args.journal.items c.judge_order.result) (ap (λ (j : Journal). j.names) c.journal.view_is)
+    (ordered-verdict p names text (line_lists c.args.scripts.now) c.args.journal.items (sym (past-is g judged.In_ok-line) ∙ c.in_default.is) c.judge_order.result same ordered)
+
+pub returns-clause-rows : goal.returns-clause-rows
+returns-clause-rows g c = (
+  work_of (arc_value c.args.portfolio.now) (as_one_caller c.args.journal.items),
+  c.in_ok-line-2.ensures.ticked ∙ ap (λ (is : List Item). c.args.steps.now + work_of (arc_value c.args.portfolio.now) (as_one_caller is)) (items-are g (goal.at.returns-clause-rows g c).In_ok-line-2),
+  λ answers right. refl,
+)

@@ -1,6 +1,6 @@
 use Rattle.std.proofs.Common.{◌≡◌, ℕ, ◌<◌, ◌≤◌, true}
 use Rattle.act_history.specs.History.{History, has_result}
-use Rattle.act_keeping.specs.Kept.{Keeps}
+use Rattle.act_keeping.specs.Keeping.{Keeps}
 use Rattle.act_board.proofs.claiming.are_ready.Given as goal
 
 -- those from this one on have results

@@ -9,7 +9,7 @@ use Rattle.act_model.specs.Run.{Stream}
 use Rattle.act_profile.specs.Run.{run_of}
 use Rattle.act_profile.specs.DayOrder.{AreInDayOrder, RunsAreInDayOrder}
 use Rattle.act_history.specs.History.{entries_of}
-use Rattle.act_keeping.specs.Kept.{AreResults}
+use Rattle.act_keeping.specs.Keeping.{AreResults}
 use Rattle.act_keeping.proofs.Told.{listed-in}
 use Rattle.act_board.proofs.claiming.children_results.Goals as goal
 

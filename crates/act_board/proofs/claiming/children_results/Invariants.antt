@@ -1,7 +1,7 @@
 use Rattle.std.proofs.Common.{map, take}
 use Rattle.std.specs.Arc.{arc_value}
 use Rattle.act_history.specs.History.{History}
-use Rattle.act_keeping.specs.Kept.{AreResults, Keeps}
+use Rattle.act_keeping.specs.Keeping.{AreResults, Keeps}
 use Rattle.act_board.proofs.claiming.children_results.Given as goal
 
 -- those of the children before this one

@@ -1,6 +1,6 @@
 use Rattle.std.proofs.Common.{ap, ◌∙◌}
 use Rattle.std.proofs.lemmas.Option.{get_or_from_slice_get}
-use Rattle.act_keeping.specs.Kept.{is_done}
+use Rattle.act_keeping.specs.Keeping.{is_done}
 use Rattle.act_keeping.specs.declared.pair.Pair.{Pair}
 use Rattle.act_keeping.proofs.Told.{no-result, result-is}
 use Rattle.act_board.proofs.claiming.has_result.Goals as goal

@@ -3,7 +3,7 @@ use Rattle.std.specs.Arc.{arc_value}
 use Rattle.std.proofs.lemmas.Option.{get_or_from_slice_get}
 use Rattle.act_model.specs.Run.{Stream}
 use Rattle.act_profile.specs.DayOrder.{AreInDayOrder}
-use Rattle.act_keeping.specs.Kept.{is_kept}
+use Rattle.act_keeping.specs.Keeping.{is_kept}
 use Rattle.act_keeping.specs.declared.pair.Pair.{Pair}
 use Rattle.act_keeping.proofs.Told.{done-run, found-done, result-there}
 use Rattle.act_board.proofs.claiming.result_of.Goals as goal

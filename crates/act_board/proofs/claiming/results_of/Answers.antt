@@ -8,7 +8,7 @@ use Rattle.std.proofs.lemmas.List.FromFn.{map-range_with_len_more}
 use Rattle.act_model.specs.Run.{Stream}
 use Rattle.act_profile.specs.Run.{run_of}
 use Rattle.act_history.specs.History.{History, entries_of}
-use Rattle.act_keeping.specs.Kept.{answered, numbered}
+use Rattle.act_keeping.specs.Keeping.{answered, numbered}
 use Rattle.act_board.proofs.claiming.results_of.Goals as goal
 
 -- one contract more

@@ -1,6 +1,6 @@
 use Rattle.std.proofs.Common.{◌≡◌, ◌≤◌}
 use Rattle.act_history.specs.History.{History}
-use Rattle.act_keeping.specs.Kept.{Keeps, answered, numbered}
+use Rattle.act_keeping.specs.Keeping.{Keeps, answered, numbered}
 use Rattle.act_board.proofs.claiming.results_of.Given as goal
 
 -- those of the contracts before this one

@@ -48,4 +48,4 @@ returns-clause-kept c = λ d cut at.
     let within = slice_get_within c.contracts.cuts.items d cut at in
     let is = c.contracts.invariant.each d cut at in
     kept-alike c.args.portfolio.now.contracts d c.args.book.now c.args.one c.args.other c.terms-contracts.ensures.linked
-    (c.order.ensures.within_depth d (omega (arith, within, c.contracts.invariant.count, c.contracts.auto.contract-end, ap length c.terms-contracts.ensures.terms))) cut is.0 is.1
+    (c.contracts_are_linked.ensures.within_depth d (omega (arith, within, c.contracts.invariant.count, c.contracts.auto.contract-end, ap length c.terms-contracts.ensures.terms))) cut is.0 is.1

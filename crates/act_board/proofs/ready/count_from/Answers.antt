@@ -4,7 +4,7 @@ use Rattle.std.proofs.lemmas.Bool.{cases_eq}
 use Rattle.std.proofs.lemmas.Option.{same_Some, slice_get_read, slice_get_within}
 use Rattle.act_portfolio.specs.Reading.{Accepted}
 use Rattle.act_history.specs.History.{History}
-use Rattle.act_keeping.specs.Kept.{contract_at}
+use Rattle.act_keeping.specs.Keeping.{contract_at}
 use Rattle.act_keeping.specs.Ready.{lacking_of}
 use Rattle.act_keeping.specs.declared.pair.Pair.{Pair}
 use Rattle.act_keeping.proofs.Freed.{get-push_below}

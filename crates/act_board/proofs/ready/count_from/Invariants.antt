@@ -1,7 +1,7 @@
 use Rattle.std.proofs.Common.{◌≡◌, ◌<◌, ◌≤◌, ℕ, length, Some, vec_capacity}
 use Rattle.std.specs.List.{slice_get}
 use Rattle.act_history.specs.History.{History}
-use Rattle.act_keeping.specs.Kept.{Keeps, contract_at}
+use Rattle.act_keeping.specs.Keeping.{Keeps, contract_at}
 use Rattle.act_keeping.specs.Ready.{lacking_of}
 use Rattle.act_keeping.specs.declared.pair.Pair.{Pair}
 use Rattle.act_board.proofs.ready.count_from.Given as goal

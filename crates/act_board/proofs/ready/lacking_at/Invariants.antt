@@ -1,7 +1,7 @@
 use Rattle.std.proofs.Common.{◌≡◌, ◌≤◌, not, take}
 use Rattle.std.specs.List.{count_by}
 use Rattle.act_history.specs.History.{History, has_result}
-use Rattle.act_keeping.specs.Kept.{Keeps}
+use Rattle.act_keeping.specs.Keeping.{Keeps}
 use Rattle.act_board.proofs.ready.lacking_at.Given as goal
 
 -- those before this one that lack a result are counted

@@ -12,7 +12,7 @@ contracts-init c =
     let count : length c.in_ok-parents.parents.items ≡ length c.args.portfolio.now.contracts.terms = c.in_ok-parents.ensures.count ∙ ap length c.terms-count.ensures.terms in
     record {
       count = count;
-      below = below-none c.args.portfolio.now.contracts.children c.in_ok-parents.parents.items (count ∙ sym c.order.ensures.count) c.in_ok-parents.ensures.empty;
+      below = below-none c.args.portfolio.now.contracts.children c.in_ok-parents.parents.items (count ∙ sym c.contracts_are_linked.ensures.count) c.in_ok-parents.ensures.empty;
     }
 
 pub contracts-preserved : goal.contracts-preserved
@@ -31,4 +31,4 @@ contracts-preserved c =
 
 pub returns : goal.returns
 returns c =
-    below-all c.args.portfolio.now.contracts.children (child_lists c.contracts.parents.items) c.contracts.contract (omega (arith, c.contracts-test.false, ap length c.terms-count.ensures.terms, c.order.ensures.count)) c.contracts.invariant.below
+    below-all c.args.portfolio.now.contracts.children (child_lists c.contracts.parents.items) c.contracts.contract (omega (arith, c.contracts-test.false, ap length c.terms-count.ensures.terms, c.contracts_are_linked.ensures.count)) c.contracts.invariant.below

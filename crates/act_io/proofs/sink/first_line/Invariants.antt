@@ -1,5 +1,5 @@
 use Rattle.std.proofs.Common.{◌≡◌, ◌++◌, drop, take}
-use Rattle.act_io.specs.Put.{first_line}
+use Rattle.act_io.specs.Page.{first_line}
 use Rattle.act_io.proofs.sink.first_line.Given as goal
 
 -- the first line goes on behind the bytes so far

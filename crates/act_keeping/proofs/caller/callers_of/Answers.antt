@@ -2,7 +2,7 @@ use Rattle.std.proofs.Common.{◌≡◌, ◌+◌, ℕ, List, [], ◌∷◌, ◌+
 use Rattle.std.specs.List.{slice_get}
 use Rattle.std.proofs.lemmas.List.{length_push}
 use Rattle.std.proofs.lemmas.Option.{same_Some, slice_get-get_or}
-use Rattle.act_keeping.specs.Kept.{IsNewcomer}
+use Rattle.act_keeping.specs.Keeping.{IsNewcomer}
 use Rattle.act_keeping.specs.declared.caller.Caller.{Caller}
 use Rattle.act_history.proofs.Places.{get-push_cases}
 use Rattle.act_keeping.proofs.caller.callers_of.Goals as goal

@@ -1,6 +1,6 @@
 use Rattle.std.proofs.Common.{◌≡◌, ℕ, length, Some}
 use Rattle.std.specs.List.{slice_get}
-use Rattle.act_keeping.specs.Kept.{IsNewcomer}
+use Rattle.act_keeping.specs.Keeping.{IsNewcomer}
 use Rattle.act_keeping.specs.declared.caller.Caller.{Caller}
 use Rattle.act_keeping.proofs.caller.callers_of.Given as goal
 

@@ -1,4 +1,4 @@
-use Rattle.std.proofs.Common.{◌≡◌, ℕ, ◌+◌, ◌-◌, ◌<◌, List, length, get_or, Some, inl, inr, sym, ap, arith}
+use Rattle.std.proofs.Common.{◌≡◌, ℕ, ◌+◌, ◌-◌, ◌<◌, ◌≤◌, List, length, get_or, Some, inl, inr, sym, ap, arith}
 use Rattle.std.proofs.lemmas.Bool.{cases_lt}
 use Rattle.std.proofs.lemmas.List.Kept.{AllPairs-from_increasing}
 use Rattle.std.proofs.lemmas.Option.{get_or_from_slice_get, slice_get_within}
@@ -15,5 +15,19 @@ up_to_last numbers last ascending at k d within =
       | inr here ↦ let same : get_or numbers k d ≡ get_or numbers (length numbers - 1) d = ap (λ n. get_or numbers n d) (omega arith) in omega arith
     ]
 
+-- what is above all of them is above the last
+below_all : (numbers : List ℕ) (last n : ℕ) → slice_get numbers (length numbers - 1) ≡ Some last → All (λ number. number < n) numbers → last + 1 ≤ n
+below_all numbers last n at all =
+    let end : get_or numbers (length numbers - 1) 0 ≡ last = get_or_from_slice_get numbers (length numbers - 1) last 0 at in
+    let less : get_or numbers (length numbers - 1) 0 < n = all (length numbers - 1) 0 (slice_get_within numbers (length numbers - 1) last at) in
+    omega arith
+
 pub returns-in-Some : goal.returns-in-Some
-returns-in-Some c = up_to_last c.args.numbers.now c.in-Some.last.now c.requires.ascending (sym c.in-Some.ensures.value)
+returns-in-Some c =
+    let numbers = c.args.numbers.now in
+    let last = c.in-Some.last.now in
+    let at : slice_get numbers (length numbers - 1) ≡ Some last = sym c.in-Some.ensures.value in
+    record {
+      above = up_to_last numbers last c.requires.ascending at;
+      least = λ n all. below_all numbers last n at all;
+    }

@@ -1,5 +1,5 @@
 use Rattle.std.proofs.Common.{◌-◌, length}
-use Rattle.act_keeping.specs.Kept.{IsPast}
+use Rattle.act_keeping.specs.Keeping.{IsPast}
 use Rattle.act_keeping.proofs.pair.first_waiting.Given as goal
 
 -- the pairs before this place don't wait

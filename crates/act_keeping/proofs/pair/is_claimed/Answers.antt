@@ -1,6 +1,6 @@
 use Rattle.std.proofs.Common.{◌≡◌, true, sym, ap, ◌∙◌}
 use Rattle.std.proofs.lemmas.Option.{get_or_from_slice_get}
-use Rattle.act_keeping.specs.Kept.{is_under_way}
+use Rattle.act_keeping.specs.Keeping.{is_under_way}
 use Rattle.act_keeping.specs.declared.pair.Pair.{Pair}
 use Rattle.act_keeping.proofs.Ordered.{same-pair}
 use Rattle.act_keeping.proofs.pair.is_claimed.Goals as goal

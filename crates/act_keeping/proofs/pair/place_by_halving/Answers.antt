@@ -1,7 +1,7 @@
 use Rattle.std.proofs.Common.{◌≡◌, ◌+◌, ◌-◌, ◌/◌, ◌<◌, true, false, Some, refl, sym, ◌∙◌, arith}
 use Rattle.std.specs.List.{slice_get}
 use Rattle.std.proofs.lemmas.Option.{slice_get_read}
-use Rattle.act_keeping.specs.Kept.{is_before}
+use Rattle.act_keeping.specs.Keeping.{is_before}
 use Rattle.act_keeping.proofs.Ordered.{lower, upper}
 use Rattle.act_keeping.proofs.pair.place_by_halving.Goals as goal
 

@@ -1,6 +1,6 @@
 use Rattle.std.proofs.Common.{◌≡◌, ◌-◌, ℕ, ◌<◌, ◌≤◌, true, length, Some}
 use Rattle.std.specs.List.{slice_get}
-use Rattle.act_keeping.specs.Kept.{is_before}
+use Rattle.act_keeping.specs.Keeping.{is_before}
 use Rattle.act_keeping.specs.declared.pair.Pair.{Pair}
 use Rattle.act_keeping.proofs.pair.place_by_halving.Given as goal
 

@@ -1,7 +1,7 @@
 use Rattle.std.proofs.Common.{◌≡◌, ◌-◌, ◌≤◌, ℕ, true, false, get_or, Some, sym, ap, ◌∙◌, arith}
 use Rattle.std.specs.List.{slice_get}
 use Rattle.std.proofs.lemmas.Option.{get_or_from_slice_get, slice_get-get_or, slice_get_within}
-use Rattle.act_keeping.specs.Kept.{HasAt, is_waiting}
+use Rattle.act_keeping.specs.Keeping.{HasAt, is_waiting}
 use Rattle.act_keeping.specs.declared.pair.Pair.{Pair}
 use Rattle.act_keeping.proofs.Freed.{lowered-free, noted-lowered, noted-none, of-one}
 use Rattle.act_keeping.proofs.ready.note.Goals as goal

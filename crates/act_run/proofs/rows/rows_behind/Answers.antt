@@ -9,19 +9,21 @@ use Rattle.act_run.proofs.rows.rows_behind.Goals as goal
 
 pub returns-in-Err-clause-run : goal.returns-in-Err-clause-run
 returns-in-Err-clause-run g c =
-    let children = map arc_value c.args.children.now in
-    let step = step_of c.args.terms.now c.args.plan.now (g.O.Observed.entries c.args.seen.now) children in
-    let currency = currency_of c.args.terms.now children in
+    let inside = c.inputs.inside in
+    let children = map arc_value inside.children.now in
+    let step = step_of inside.terms.now inside.plan.now (g.O.Observed.entries inside.seen.now) children in
+    let currency = currency_of inside.terms.now children in
     let event = c.event-item.result in
-    rw c.close_of-close.ensures
+    rw (c.close_of-close.ensures, ← c.inputs.view_is)
     (sym (taken_stop step currency _ _ _ _ c.events.state c.events.event-index event c.in-Err.stop c.events.invariant.taken c.events-test.true c.event-item.is
     (made_stop step currency c.events.state event c.advance.new.state c.advance.result c.in-Err.stop c.advance.ensures.value c.in-Err.is)))
 
 pub events-preserved : goal.events-preserved
 events-preserved g c =
-    let children = map arc_value c.args.children.now in
-    let step = step_of c.args.terms.now c.args.plan.now (g.O.Observed.entries c.args.seen.now) children in
-    let currency = currency_of c.args.terms.now children in
+    let inside = c.inputs.inside in
+    let children = map arc_value inside.children.now in
+    let step = step_of inside.terms.now inside.plan.now (g.O.Observed.entries inside.seen.now) children in
+    let currency = currency_of inside.terms.now children in
     let event = c.event-item.result in
     record {
       taken = rw c.in_ok-push-in-Ok.ensures.added (rw c.head_of.ensures
@@ -31,4 +33,4 @@ events-preserved g c =
     }
 
 pub returns-clause-run : goal.returns-clause-run
-returns-clause-run g c = sym (taken_all _ _ _ _ _ _ c.events.state c.events.event-index c.events.invariant.taken c.events-test.false)
+returns-clause-run g c = rw (← c.inputs.view_is) (sym (taken_all _ _ _ _ _ _ c.events.state c.events.event-index c.events.invariant.taken c.events-test.false))

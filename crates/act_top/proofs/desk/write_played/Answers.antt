@@ -1,13 +1,16 @@
-use Rattle.std.proofs.Common.{◌∙◌}
-use Rattle.act_history.specs.History.{journal_of}
-use Rattle.act_top.proofs.DeskRuns.{runs-part, runs-whole}
+use Rattle.std.proofs.Common.{if◌then◌else◌, Bool, List, ap, ◌∙◌}
+use Rattle.std.specs.List.{list_all}
+use Rattle.std.proofs.lemmas.List.{map-id}
+use Rattle.act_engine.specs.declared.status.Status.TheVariants.{Done, Unfinished}
+use Rattle.act_history.specs.History.{journal_of, replies_of}
+use Rattle.act_model.specs.Answer.{Reply}
+use Rattle.act_profile.specs.Answers.{answers_of}
+use Rattle.act_transcript.specs.Ends.{ends_well}
 use Rattle.act_top.proofs.desk.write_played.Goals as goal
 
-pub returns-in-Ok : goal.returns-in-Ok
-returns-in-Ok g c =
-    rw c.in-Ok.ensures.board
-    (runs-whole c.args.job.now c.args.played c.in-Ok.ended _ _ _ _ _ c.requires c.answers_status.ensures c.in-Ok.ensures.ended c.in-Ok.ensures.text c.in-Ok.ensures.faults)
-
-pub returns-in-Err : goal.returns-in-Err
-returns-in-Err g c =
-    runs-part c.args.job.now (journal_of c.args.played.board) c.in-Err.stop _ _ _ _ _ _ c.requires.played.interleaved (c.without_board.ensures.status ∙ c.status_of.ensures) c.without_board.ensures.board c.in-Err.ensures.text c.in-Err.ensures.faults
+pub returns-in-Ok-clause-status : goal.returns-in-Ok-clause-status
+returns-in-Ok-clause-status g c =
+    let j = c.args.job.now in
+    let answers = answers_of j.portfolio.contracts j.scripts.names (journal_of c.args.played.board) in
+    let kept = ap replies_of c.deref-2.ensures.value ∙ (c.requires.answers ∙ map-id answers) in
+    c.answers_status.ensures ∙ ap (λ (b : Bool). if b then Done else Unfinished) (c.all_end_well-ended.ensures ∙ ap (λ (replies : List Reply). list_all ends_well replies) kept)

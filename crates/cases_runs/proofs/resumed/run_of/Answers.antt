@@ -6,6 +6,6 @@ use Rattle.act_model.specs.Run.{Stream}
 use Rattle.act_profile.specs.DayOrder.{RunsAreInDayOrder}
 use Rattle.cases_runs.proofs.resumed.run_of.Goals as goal
 
-pub evaluate-requires-clause-children : goal.evaluate-requires-clause-children
-evaluate-requires-clause-children g c =
+pub inputs_of-inputs-requires-clause-children : goal.inputs_of-inputs-requires-clause-children
+inputs_of-inputs-requires-clause-children g c =
     subst (λ (runs : List (Arc Stream Global)). RunsAreInDayOrder (map arc_value runs)) (sym c.deref.ensures.value) c.in_ok-children.ensures

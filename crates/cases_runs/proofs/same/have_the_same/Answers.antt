@@ -1,4 +1,4 @@
-use Rattle.std.proofs.Common.{◌≡◌, slice_get, Some, ap, subst, sym, ◌∙◌}
+use Rattle.std.proofs.Common.{◌≡◌, slice_get, Some, subst, sym}
 use Rattle.act_model.specs.declared.run.Row.{Row}
 use Rattle.cases_runs.proofs.RowByRow.{same_more}
 use Rattle.cases_runs.proofs.same.have_the_same.Goals as goal

@@ -1,4 +1,4 @@
-use Rattle.std.proofs.Common.{◌≡◌, true, false, Some, Ok, ap, sym, ◌∙◌}
+use Rattle.std.proofs.Common.{◌≡◌, true, Some, ap, sym, ◌∙◌}
 use Rattle.act_model.specs.Run.{Stream}
 use Rattle.act_profile.specs.Stops.{comes_before, stop_day}
 use Rattle.cases_runs.proofs.RowByRow.{same_part}

@@ -1,9 +1,10 @@
-use Rattle.std.proofs.Common.{◌≡◌, ◌+◌, ◌++◌, [], List, ℕ, Some, true, drop, ap, sym, ◌∙◌, arith, append-nil, length, take}
+use Rattle.std.proofs.Common.{◌≡◌, ◌+◌, ◌++◌, [], List, ℕ, true, drop, ap, sym, ◌∙◌, arith, append-nil, length, take}
 use Rattle.std.specs.Prelude.{nat_eq, vec_len}
 use Rattle.std.proofs.lemmas.Bool.{eqb-true}
 use Rattle.std.specs.List.{starts_with}
 use Rattle.std.proofs.lemmas.List.{take_all}
 use Rattle.act_audit.proofs.Alike.{empty-list, front-on, slice-on}
+use Rattle.act_audit.proofs.Rights.{on_sheet}
 use Rattle.act_audit.proofs.sheet.SheetSink.put.Goals as goal
 
 pub returns-then-starts_with-clause-took : goal.returns-then-starts_with-clause-took
@@ -17,7 +18,7 @@ returns-then-starts_with-clause-took c =
     let before : c.args.self.now ≡ take same text = sym c.self.view_is ∙ (ap (λ (r : List ℕ). take same text ++ r) none ∙ append-nil (take same text)) in (
       omega arith,
       λ some. some,
-      ap Some
+      ap on_sheet
           (ap (λ (r : List ℕ). take (same + length piece) text ++ r) none
           ∙ (append-nil (take (same + length piece) text)
           ∙ (front-on text piece same starts

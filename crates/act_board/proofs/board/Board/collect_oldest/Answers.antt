@@ -11,7 +11,7 @@ use Rattle.act_profile.specs.Answers.{answer_to}
 use Rattle.act_profile.specs.Run.{run_of}
 use Rattle.act_refs.proofs.Turning.{written_back}
 use Rattle.act_history.specs.History.{History, and_then, entries_of, is_given_up, open_asks}
-use Rattle.act_keeping.specs.Kept.{ArePairs, ClosesOldest, IsThere, Keeps, numbered}
+use Rattle.act_keeping.specs.Keeping.{ArePairs, ClosesOldest, IsThere, Keeps, numbered}
 use Rattle.act_history.specs.Legal.{IsLegal, IsOldest, IsReady}
 use Rattle.act_keeping.specs.declared.caller.Caller.{Caller}
 use Rattle.act_history.specs.declared.mark.Mark.{Mark}

@@ -13,7 +13,7 @@ invariant_of-self c =
     let new = c.drop_runs-self-inside.new.pairs in
     let drops = subst (λ (v : ℕ). Drops b.pairs.items b.callers.items v new) c.len-version.ensures.length
     (subst (λ (xs : List Caller). Drops b.pairs.items xs c.len-version.result new) c.deref.ensures.value
-    (subst (λ (xs : List Pair). Drops xs c.deref.result.now c.len-version.result new) c.deref_mut.ensures.value c.drop_runs-self-inside.ensures)) in (
+    (subst (λ (xs : List Pair). Drops xs c.deref.result.now c.len-version.result new) c.deref_mut.ensures.value c.drop_runs-self-inside.ensures.dropped)) in (
       rw (written_back b.pairs.len new b.pairs.items drops.count (sym c.deref_mut.ensures.len ∙ ap length c.deref_mut.ensures.value))
           (board-dropped _ _ c.self.invariant.0 new drops),
       c.self.invariant.1,

@@ -13,11 +13,11 @@ use Rattle.act_refs.proofs.Paths.{children_of-read, length-child_lists}
 use Rattle.act_refs.proofs.Turning.{written_back}
 use Rattle.act_board.specs.Calls.{IsOf}
 use Rattle.act_history.specs.History.{History, and_then, entries_of, has_result, is_claimed, version_of}
-use Rattle.act_keeping.specs.Kept.{AreSorted, IsListed, IsPut, IsResult, IsUnderWay, contract_at}
+use Rattle.act_keeping.specs.Keeping.{AreSorted, IsListed, IsPut, IsResult, IsUnderWay, contract_at}
 use Rattle.act_keeping.specs.Latest.{is_later}
 use Rattle.act_keeping.specs.Ready.{AreApart, AreFree, AreSettled, Lacks}
 use Rattle.act_keeping.specs.Work.{version}
-use Rattle.act_keeping.specs.declared.latest.Latest.{Latest}
+use Rattle.act_keeping.specs.declared.latest.LatestResult.{LatestResult}
 use Rattle.act_history.specs.declared.mark.Mark.{Mark}
 use Rattle.act_history.specs.declared.mark.Mark.TheVariants as mark
 use Rattle.act_keeping.specs.declared.pair.Pair.{Pair}
@@ -102,8 +102,8 @@ invariant_of-self c =
     let again : arc_value latest ≡ arc_value run = c.into_parts-contract.ensures.latest ∙ sym c.into_parts-contract.ensures.run in
     let result : IsResult raw d v (arc_value latest) = (again ∙ made-own, subst (λ (s : Stream). AreInDayOrder s.rows) (sym again) c.into_parts-contract.ensures.in_day_order) in
     let there : d < length b.latest.items = omega (arith, c.into_parts-contract.ensures.within, ap (λ (q : Accepted). length q.contracts.terms) of.portfolio, c.self.invariant.1.count) in
-    let later = subst (λ (xs : List (Option Latest)). is_later (slice_index_or xs d None) v ≡ true → c.put_latest.new.latest ≡ xs) c.deref_mut-2.ensures.value c.put_latest.ensures.later in
-    let put_on = subst (λ (xs : List (Option Latest)). is_later (slice_index_or xs d None) v ≡ false → c.put_latest.new.latest ≡ set xs d (Some (record { version = v; run = latest }))) c.deref_mut-2.ensures.value c.put_latest.ensures.put in
+    let later = subst (λ (xs : List (Option LatestResult)). is_later (slice_index_or xs d None) v ≡ true → c.put_latest.new.latest ≡ xs) c.deref_mut-2.ensures.value c.put_latest.ensures.later in
+    let put_on = subst (λ (xs : List (Option LatestResult)). is_later (slice_index_or xs d None) v ≡ false → c.put_latest.new.latest ≡ set xs d (Some (record { version = v; run = latest }))) c.deref_mut-2.ensures.value c.put_latest.ensures.put in
     let read : c.deref-4.result.now ≡ c.put_progress.new.pairs = c.deref-4.ensures.value ∙ written_back b.pairs.len c.put_progress.new.pairs b.pairs.items (ap length put.is ∙ length-set b.pairs.items put.place (record { version = v; rank = r; progress = Done run })) (sym c.deref_mut.ensures.len ∙ ap length c.deref_mut.ensures.value) in
     let known-one : d < length p.contracts.children = omega (arith, c.into_parts-contract.ensures.within, ap (λ (q : Accepted). length q.contracts.terms) of.portfolio, c.self.invariant.0.count) in
     let listed : c.deref-5.result.now ≡ children_of (child_lists b.parents.items) d = c.deref-5.ensures.value ∙ sym (children_of-read b.parents.items d c.index.result.now c.index.ensures (omega (arith, known-one, c.self.invariant.2.turned.count, length-child_lists b.parents.items))) in

@@ -11,11 +11,11 @@ use Rattle.act_refs.specs.Path.{IsChild, children_of}
 use Rattle.act_refs.proofs.Turning.{written_back}
 use Rattle.act_board.specs.Calls.{IsOf}
 use Rattle.act_history.specs.History.{History, entries_of}
-use Rattle.act_keeping.specs.Kept.{ArePairs, IsListed, IsPut, IsThere, Keeps, contract_at}
+use Rattle.act_keeping.specs.Keeping.{ArePairs, IsListed, IsPut, IsThere, Keeps, contract_at}
 use Rattle.act_keeping.specs.Latest.{cut_for, kept_for}
 use Rattle.act_history.specs.Legal.{IsLegal, IsNext}
 use Rattle.act_keeping.specs.Tasks.{MayGoOn}
-use Rattle.act_keeping.specs.declared.latest.Latest.{Latest}
+use Rattle.act_keeping.specs.declared.latest.LatestResult.{LatestResult}
 use Rattle.act_keeping.specs.Work.{Work}
 use Rattle.act_history.specs.declared.mark.Mark.{Mark}
 use Rattle.act_history.specs.declared.mark.Mark.TheVariants as mark
@@ -69,7 +69,7 @@ cached_for-requires-clause-version c =
 
 pub cached_for-requires-clause-latest : goal.cached_for-requires-clause-latest
 cached_for-requires-clause-latest c = λ one at.
-    let is = c.self.invariant.1.results c.args.contract one (ap (λ (xs : List (Option Latest)). slice_get xs c.args.contract) (sym c.deref-4.ensures.value) ∙ at) in
+    let is = c.self.invariant.1.results c.args.contract one (ap (λ (xs : List (Option LatestResult)). slice_get xs c.args.contract) (sym c.deref-4.ensures.value) ∙ at) in
     omega (arith, is.0, ap length c.in_ok-seen.ensures.same, ap length c.self.invariant.0.entries)
 
 pub new-task-requires-clause-contract : goal.new-task-requires-clause-contract

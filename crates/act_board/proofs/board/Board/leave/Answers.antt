@@ -2,7 +2,7 @@ use Rattle.std.proofs.Common.{◌-◌, List, [], ◌∷◌, ◌++◌, length, re
 use Rattle.std.proofs.lemmas.List.{length-set}
 use Rattle.act_refs.proofs.Turning.{written_back}
 use Rattle.act_history.specs.History.{History}
-use Rattle.act_keeping.specs.Kept.{Leaves}
+use Rattle.act_keeping.specs.Keeping.{Leaves}
 use Rattle.act_history.specs.Legal.{IsLegal}
 use Rattle.act_keeping.specs.declared.caller.Caller.{Caller}
 use Rattle.act_history.specs.declared.mark.Mark.{Mark}

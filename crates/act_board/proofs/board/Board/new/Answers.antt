@@ -1,4 +1,4 @@
-use Rattle.std.proofs.Common.{◌≡◌, ◌+◌, ◌<◌, ◌≤◌, ℕ, List, Ok, [], length, ap, subst, ◌∙◌, arith, vec_capacity}
+use Rattle.std.proofs.Common.{◌≡◌, ◌+◌, ◌<◌, ◌≤◌, ℕ, Ok, [], length, ap, subst, ◌∙◌, arith, vec_capacity}
 use Rattle.std.specs.Arc.{arc_value}
 use Rattle.std.specs.List.{All}
 use Rattle.act_portfolio.specs.Reading.{Accepted}
@@ -16,10 +16,10 @@ invariant_of-result c =
     let portfolio : Accepted = arc_value c.args.portfolio in
     let of = c.deref.ensures in
     let quotas = c.args.quotas.now in
-    let ordered : order_of portfolio.contracts.children ≡ Ok portfolio.order = subst (λ (p : Accepted). order_of p.contracts.children ≡ Ok p.order) of c.order.ensures.ordered in
-    let count : length portfolio.contracts.children ≡ length portfolio.contracts.terms = subst (λ (p : Accepted). length p.contracts.children ≡ length p.contracts.terms) of c.order.ensures.count in
+    let ordered : order_of portfolio.contracts.children ≡ Ok portfolio.order = subst (λ (p : Accepted). order_of p.contracts.children ≡ Ok p.order) of c.contracts_are_linked.ensures.ordered in
+    let count : length portfolio.contracts.children ≡ length portfolio.contracts.terms = subst (λ (p : Accepted). length p.contracts.children ≡ length p.contracts.terms) of c.contracts_are_linked.ensures.count in
     let numbered : All (λ contract. contract < length portfolio.contracts.terms) portfolio.order =
-    subst (λ (p : Accepted). All (λ contract. contract < length p.contracts.terms) p.order) of (subst (λ (xs : List ℕ). All (λ contract. contract < length c.deref.result.now.contracts.terms) xs) c.order.ensures.order c.order.ensures.numbered) in
+    subst (λ (p : Accepted). All (λ contract. contract < length p.contracts.terms) p.order) of c.contracts_are_linked.ensures.numbered in
     let marks : c.make_room.new.marks.items ≡ [] = c.make_room.ensures.marks ∙ c.new-marks.ensures.items in
     let room : length quotas + 1 ≤ vec_capacity c.make_room.new.marks = omega (arith, c.in_ok-make_room.ensures.room, ap length marks) in
     let terms : length c.terms.result.now ≡ length portfolio.contracts.terms = ap length c.terms.ensures.terms ∙ ap (λ (p : Accepted). length p.contracts.terms) c.deref-2.ensures in

@@ -10,7 +10,7 @@ use Rattle.act_portfolio.specs.Reading.{Accepted}
 use Rattle.act_history.specs.History.{History, asks_by}
 use Rattle.act_keeping.specs.Wanting.{IsExtended, is_asked}
 use Rattle.act_keeping.specs.declared.pair.Pair.{Pair}
-use Rattle.act_keeping.specs.Kept.{ArePairs, IsUntouched, Keeps, OpensAsk}
+use Rattle.act_keeping.specs.Keeping.{ArePairs, IsUntouched, Keeps, OpensAsk}
 use Rattle.act_keeping.specs.Ready.{AreFree}
 use Rattle.act_history.specs.Legal.{IsLegal}
 use Rattle.act_keeping.specs.declared.caller.Caller.{Caller}

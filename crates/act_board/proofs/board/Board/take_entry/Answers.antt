@@ -5,7 +5,7 @@ use Rattle.act_model.specs.declared.journal.Item.{Item}
 use Rattle.act_model.specs.declared.journal.Step.TheVariants as step
 use Rattle.act_refs.proofs.Turning.{written_back}
 use Rattle.act_history.specs.History.{History}
-use Rattle.act_keeping.specs.Kept.{Spends}
+use Rattle.act_keeping.specs.Keeping.{Spends}
 use Rattle.act_history.specs.Legal.{IsLegal}
 use Rattle.act_keeping.specs.declared.caller.Caller.{Caller}
 use Rattle.act_history.specs.declared.mark.Mark.{Mark}

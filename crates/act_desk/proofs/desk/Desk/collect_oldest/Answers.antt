@@ -2,62 +2,45 @@ use Rattle.act_desk.proofs.Watching.{if-err, watched-given_up, watched-no_memory
 use Rattle.std.proofs.Common.{◌∙◌, Ok, subst}
 use Rattle.act_board.specs.declared.outcome.Collected.{Collected}
 use Rattle.act_desk.specs.Calls.{CollectsOrNot}
+use Rattle.act_desk.specs.Making.{HasWatched}
 use Rattle.act_desk.specs.Step.{IsStep}
+use Rattle.act_desk.proofs.desk.Desk.collect_oldest.Goals.{In-NotYet}
 use Rattle.act_desk.proofs.desk.Desk.collect_oldest.Goals as goal
 
+-- where the answer isn't ready
+not-yet : (g : _) (c : In-NotYet g) → HasWatched c.args.pass.now c.collect.new.pass
+not-yet g c =
+    let watched = c.loop.invariant in
+    watched-trans watched
+    (watched-not_yet c.args.caller _ _ (watched.number ∙ c.requires.at.own) watched.history watched.seen
+    (subst (λ (answer : Collected). IsStep c.loop.pass (CollectsOrNot c.args.caller (Ok answer)) c.collect.new.pass) c.in-NotYet.is c.in_ok-answer.ensures))
+
 pub collect-requires-clause-present : goal.collect-requires-clause-present
-collect-requires-clause-present g c = watched-present c.args.pass.now c.loop.pass c.loop.invariant c.args.caller c.requires.own c.requires.present
+collect-requires-clause-present g c = watched-present c.loop.invariant c.requires.at.own c.requires.present
 
 pub collect-requires-clause-asked : goal.collect-requires-clause-asked
-collect-requires-clause-asked g c = watched-open c.args.pass.now c.loop.pass c.loop.invariant c.args.caller c.requires.own c.requires.open
+collect-requires-clause-asked g c = watched-open c.loop.invariant c.requires.at.own c.requires.open
 
 pub returns-in_err-answer-clause-watched : goal.returns-in_err-answer-clause-watched
 returns-in_err-answer-clause-watched g c =
     let watched = c.loop.invariant in
-    if-err c.from_residual.result
-    (watched-trans c.args.pass.now c.loop.pass c.collect.new.pass watched
-    (watched-no_memory c.args.caller c.loop.pass c.collect.new.pass (watched.number ∙ c.requires.own) watched.history watched.seen _ c.in_err-answer.ensures))
+    if-err c.from_residual.result (watched-trans watched (watched-no_memory c.args.caller _ _ (watched.number ∙ c.requires.at.own) watched.history watched.seen _ c.in_err-answer.ensures))
 
 pub returns-in-GivenUp-clause-watched : goal.returns-in-GivenUp-clause-watched
 returns-in-GivenUp-clause-watched g c =
     let watched = c.loop.invariant in
-    watched-trans c.args.pass.now c.loop.pass c.collect.new.pass watched
-    (watched-given_up c.args.caller c.loop.pass c.collect.new.pass (watched.number ∙ c.requires.own) watched.history watched.seen
+    watched-trans watched
+    (watched-given_up c.args.caller _ _ (watched.number ∙ c.requires.at.own) watched.history watched.seen
     (subst (λ (answer : Collected). IsStep c.loop.pass (CollectsOrNot c.args.caller (Ok answer)) c.collect.new.pass) c.in-GivenUp.is c.in_ok-answer.ensures))
 
 pub work-requires-clause-portfolio : goal.work-requires-clause-portfolio
-work-requires-clause-portfolio g c κs within =
-    let watched = c.loop.invariant in
-    watched-portfolio c.args.pass.now c.collect.new.pass
-    (watched-trans c.args.pass.now c.loop.pass c.collect.new.pass watched
-    (watched-not_yet c.args.caller c.loop.pass c.collect.new.pass (watched.number ∙ c.requires.own) watched.history watched.seen
-    (subst (λ (answer : Collected). IsStep c.loop.pass (CollectsOrNot c.args.caller (Ok answer)) c.collect.new.pass) c.in-NotYet.is c.in_ok-answer.ensures)))
-    _ c.requires.portfolio
+work-requires-clause-portfolio g c κs within = watched-portfolio (not-yet g (goal.at.work-requires-clause-portfolio g c).In-NotYet) c.requires.at.portfolio
 
 pub returns-in_err-work-in-NotYet-clause-watched : goal.returns-in_err-work-in-NotYet-clause-watched
-returns-in_err-work-in-NotYet-clause-watched g c =
-    let watched = c.loop.invariant in
-    if-err c.from_residual-in_err-work-in-NotYet.result
-    (watched-trans c.args.pass.now c.loop.pass c.work.new.pass watched
-    (watched-trans c.loop.pass c.collect.new.pass c.work.new.pass
-    (watched-not_yet c.args.caller c.loop.pass c.collect.new.pass (watched.number ∙ c.requires.own) watched.history watched.seen
-    (subst (λ (answer : Collected). IsStep c.loop.pass (CollectsOrNot c.args.caller (Ok answer)) c.collect.new.pass) c.in-NotYet.is c.in_ok-answer.ensures))
-    c.work.ensures.watched))
+returns-in_err-work-in-NotYet-clause-watched g c = if-err c.from_residual-in_err-work-in-NotYet.result (watched-trans (not-yet g (goal.at.returns-in_err-work-in-NotYet-clause-watched g c).In-NotYet) c.work.ensures.watched)
 
 pub loop-preserved-then-eq : goal.loop-preserved-then-eq
-loop-preserved-then-eq g c =
-    let watched = c.loop.invariant in
-    watched-trans c.args.pass.now c.loop.pass c.work.new.pass watched
-    (watched-trans c.loop.pass c.collect.new.pass c.work.new.pass
-    (watched-not_yet c.args.caller c.loop.pass c.collect.new.pass (watched.number ∙ c.requires.own) watched.history watched.seen
-    (subst (λ (answer : Collected). IsStep c.loop.pass (CollectsOrNot c.args.caller (Ok answer)) c.collect.new.pass) c.in-NotYet.is c.in_ok-answer.ensures))
-    c.work.ensures.watched)
+loop-preserved-then-eq g c = watched-trans (not-yet g (goal.at.loop-preserved-then-eq g c).In-NotYet) c.work.ensures.watched
 
 pub loop-preserved : goal.loop-preserved
-loop-preserved g c =
-    let watched = c.loop.invariant in
-    watched-trans c.args.pass.now c.loop.pass c.work.new.pass watched
-    (watched-trans c.loop.pass c.collect.new.pass c.work.new.pass
-    (watched-not_yet c.args.caller c.loop.pass c.collect.new.pass (watched.number ∙ c.requires.own) watched.history watched.seen
-    (subst (λ (answer : Collected). IsStep c.loop.pass (CollectsOrNot c.args.caller (Ok answer)) c.collect.new.pass) c.in-NotYet.is c.in_ok-answer.ensures))
-    c.work.ensures.watched)
+loop-preserved g c = watched-trans (not-yet g (goal.at.loop-preserved g c).In-NotYet) c.work.ensures.watched

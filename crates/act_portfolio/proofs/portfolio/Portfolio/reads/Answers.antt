@@ -6,7 +6,7 @@ use Rattle.act_profile.specs.Contract.{observed_as}
 use Rattle.act_profile.specs.Reads.{codes_of, cone_terms}
 use Rattle.act_cones.specs.Cones.{reads_of}
 use Rattle.act_cones.proofs.Ascending.{ascending_increases}
-use Rattle.act_portfolio.proofs.Kept.{reads_at, reads_within}
+use Rattle.act_portfolio.proofs.PerContract.{reads_at, reads_within}
 use Rattle.act_portfolio.proofs.portfolio.Portfolio.reads.Goals as goal
 
 pub index-requires : goal.index-requires

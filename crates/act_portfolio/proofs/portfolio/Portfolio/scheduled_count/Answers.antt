@@ -1,6 +1,6 @@
 use Rattle.std.proofs.Common.{ap, arith, ◌∙◌}
 use Rattle.act_cones.specs.Counts.{scheduled_count}
-use Rattle.act_portfolio.proofs.Kept.{count_at, count_within}
+use Rattle.act_portfolio.proofs.PerContract.{count_at, count_within}
 use Rattle.act_portfolio.proofs.portfolio.Portfolio.scheduled_count.Goals as goal
 
 pub index-requires : goal.index-requires

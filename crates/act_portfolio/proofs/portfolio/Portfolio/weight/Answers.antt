@@ -1,6 +1,6 @@
 use Rattle.std.proofs.Common.{ap, arith, ◌∙◌}
 use Rattle.act_cones.specs.Counts.{cone_sum}
-use Rattle.act_portfolio.proofs.Kept.{weight_at, weight_within}
+use Rattle.act_portfolio.proofs.PerContract.{weight_at, weight_within}
 use Rattle.act_portfolio.proofs.portfolio.Portfolio.weight.Goals as goal
 
 pub index-requires : goal.index-requires

@@ -1,4 +1,4 @@
-use Rattle.std.proofs.Common.{◌≡◌, ◌+◌, List, Option, Some, Vec, IfSome, refl, ap, sym, subst, arith}
+use Rattle.std.proofs.Common.{◌≡◌, ◌+◌, List, Option, Some, Vec, IfSome, ap, sym, subst, arith}
 use Rattle.std.specs.List.{slice_get}
 use Rattle.std.specs.declared.alloc.Global.{Global}
 use Rattle.std.proofs.lemmas.List.{length-map}
@@ -6,11 +6,11 @@ use Rattle.act_model.specs.declared.journal.Line.{Line}
 use Rattle.act_desk.specs.Making.{HasMade}
 use Rattle.act_desk.specs.Step.{opening}
 use Rattle.act_session.specs.Playing.{first_pass, lines_of, quotas_of}
-use Rattle.act_session.proofs.Playing.{caller-made, lines-at, may-make, worker-played}
+use Rattle.act_session.proofs.Playing.{caller-made, first-is-at, lines-at, may-make, worker-played}
 use Rattle.act_session.proofs.actor.Actor.play.Goals as goal
 
-pub caller_keeping-requires-clause-portfolio : goal.caller_keeping-requires-clause-portfolio
-caller_keeping-requires-clause-portfolio g c κs within = record { history = opening c.args.desk.now.portfolio (quotas_of (lines_of c.args.scripts.now)); seen = ap (λ p. p.seen) c.requires.first; holds = refl }
+pub caller_keeping-requires-clause-at : goal.caller_keeping-requires-clause-at
+caller_keeping-requires-clause-at g c κs within = first-is-at c.args.desk.now (lines_of c.args.scripts.now) c.args.place c.args.self.now.pass c.requires.first
 
 pub caller_keeping-requires-clause-lines : goal.caller_keeping-requires-clause-lines
 caller_keeping-requires-clause-lines g c κs within =
@@ -23,7 +23,7 @@ caller_keeping-requires-clause-lines g c κs within =
     }
 
 pub worker-requires-clause-portfolio : goal.worker-requires-clause-portfolio
-worker-requires-clause-portfolio g c κs within = record { history = opening c.args.desk.now.portfolio (quotas_of (lines_of c.args.scripts.now)); seen = ap (λ p. p.seen) c.requires.first; holds = refl }
+worker-requires-clause-portfolio g c κs within = (first-is-at c.args.desk.now (lines_of c.args.scripts.now) c.args.place c.args.self.now.pass c.requires.first).portfolio
 
 pub returns-in-Some : goal.returns-in-Some
 returns-in-Some g c =

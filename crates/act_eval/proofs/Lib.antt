@@ -1,0 +1,10 @@
+pub mod Answering
+pub mod Asks
+pub mod Blocks
+pub mod Latest
+pub mod Light
+pub mod Quiet
+pub mod Scripts
+pub mod Stepping
+pub mod Sums
+pub mod Working

@@ -1,0 +1,6 @@
+pub mod Asking
+pub mod Going
+pub mod Lists
+pub mod Reading
+pub mod Regular
+pub mod Scripting

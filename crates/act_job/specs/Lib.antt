@@ -1,0 +1,4 @@
+pub mod Job
+pub mod Reading
+pub mod Scripts
+pub mod Weight

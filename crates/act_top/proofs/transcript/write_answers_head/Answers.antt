@@ -1,5 +1,0 @@
-use Rattle.act_top.proofs.Texts.{writes-none}
-use Rattle.act_top.proofs.transcript.write_answers_head.Goals as goal
-
-pub returns-in_err-answers_head-clause-text : goal.returns-in_err-answers_head-clause-text
-returns-in_err-answers_head-clause-text g c = writes-none c.from_residual.result _ _ c.from_residual.ensures.1

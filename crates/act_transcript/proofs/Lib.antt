@@ -1,0 +1,4 @@
+pub mod JournalAnswers
+pub mod KnownLines
+pub mod Replies
+pub mod Texts
