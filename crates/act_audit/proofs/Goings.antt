@@ -1,10 +1,9 @@
 -- What an audit comes to.
 use Rattle.std.proofs.Common.{◌≡◌, ℕ, Result, Ok, None, refl}
 use Rattle.std.specs.Result.{IsErrAnd}
-use Rattle.act_audit.specs.Audit.{ComputesAsEval, IsAudit, audit_meaning, audit_reading}
+use Rattle.act_audit.specs.Audit.{IsAudit, audit_meaning, audit_reading, rows_of_text}
 use Rattle.act_audit.specs.Verdict.{AuditJob, IsVerdictOn, verdict_line, verdict_status}
 use Rattle.act_audit.specs.declared.verdict.Verdict.{Verdict}
-use Rattle.act_audit.specs.declared.verdict.Verdict.TheVariants.{Right}
 use Rattle.act_audit.specs.Words.{AuditFiles}
 use Rattle.act_engine.specs.Ending.{Goes, Outcome, Outside}
 use Rattle.act_engine.specs.Reading.{Reads, read_of}
@@ -22,8 +21,8 @@ abbrev pub outcome_of : Verdict → ℕ → Outcome
 outcome_of verdict rows = record { status = verdict_status verdict; text = verdict_line verdict; rows = rows }
 
 -- of one that is so
-pub audited : (job : AuditJob) (verdict : Verdict) (rows : ℕ) → IsVerdictOn job verdict → ((answers : ℕ) → verdict ≡ Right answers → ComputesAsEval job rows) → IsAudit job (outcome_of verdict rows)
-audited job verdict rows so counted = record { verdict = verdict; is_so = so; status = refl; text = refl; rows = counted }
+pub audited : (job : AuditJob) (verdict : Verdict) → IsVerdictOn job verdict → IsAudit job (outcome_of verdict (rows_of_text job))
+audited job verdict so = record { verdict = verdict; is_so = so; status = refl; text = refl; rows = refl }
 
 module _ (files : AuditFiles) (before after : Outside) where
   -- memory ran out before anything was written

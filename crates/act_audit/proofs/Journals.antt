@@ -1,12 +1,12 @@
 -- The journal with which a text begins.
 use Rattle.std.proofs.Common.{◌≡◌, ℕ, ◌<◌, ◌≤◌, ◌&&◌, nat_lt, Bool, true, false, inl, inr, List, [], ◌∷◌, ◌++◌, drop, length, length-append, map, take, if◌then◌else◌, Ok, refl, sym, ap, subst, ◌∙◌, append-nil, arith}
-use Rattle.std.specs.List.{All, AllByRecursion, flat_map}
+use Rattle.std.specs.List.{All, AllByRecursion}
 use Rattle.std.specs.Str.{bytes_eq}
 use Rattle.std.proofs.lemmas.Bool.{cases_Bool, ltb-false}
 use Rattle.std.proofs.lemmas.List.{length-map, take-append-drop}
 use Rattle.std.proofs.lemmas.List.Elements.{All-cons, All-nil}
 use Rattle.std.proofs.lemmas.List.Quantifiers.{position-Some}
-use Rattle.act_audit.specs.Journal.{IsJournal, IsTextOfJournal, is_of_one_caller, right_text}
+use Rattle.act_audit.specs.Journal.{IsTextOfJournal, is_of_one_caller, right_text}
 use Rattle.act_audit.specs.Judging.{AreItems}
 use Rattle.act_audit.specs.Text.{has_work_line, last_line_at, most_text, text_in}
 use Rattle.act_model.specs.Journal.{appends_entry, is_known}
@@ -17,15 +17,13 @@ use Rattle.act_model.specs.declared.journal.Step.{Step}
 use Rattle.act_model.specs.declared.journal.Step.TheVariants.{Append, Ask}
 use Rattle.act_model.specs.declared.observed.Obs.TheVariants.{Rate, Event}
 use Rattle.act_portfolio.specs.Reading.{Accepted}
-use Rattle.act_print.specs.Conditions.{IsItem, IsNumberOf, IsStep}
+use Rattle.act_print.specs.Conditions.{IsItem, IsJournal, IsNumberOf, IsStep}
 use Rattle.act_print.specs.Faults.{lines_of}
-use Rattle.act_print.specs.Printed.{Response, printed_answer}
+use Rattle.act_print.specs.Printed.{printed_answer}
 use Rattle.act_print.specs.Reading.{Lines, journal_at}
-use Rattle.act_print.specs.Text.{answer_text, answers_head_text, text_of}
-use Rattle.act_audit.proofs.Fronts.{begins, items-plain, lines-front}
-use Rattle.act_print.proofs.Bytes.{ArePlain, few_lines}
+use Rattle.act_print.proofs.Bytes.{few_lines}
 use Rattle.act_print.proofs.ItemLaws.{item_content}
-use Rattle.act_print.proofs.LineLaws.{count_line_reads}
+use Rattle.act_print.proofs.Journals.{journal-is}
 use Rattle.act_print.proofs.TranscriptLaws.{journal_lines, journal_reads}
 use Rattle.act_profile.specs.Answers.{answers_of}
 use Rattle.act_eval.specs.Evaluation.{eval_text, work_line}
@@ -33,20 +31,6 @@ use Rattle.act_transcript.specs.Text.{output_of}
 use Rattle.act_eval.specs.Work.{work_of}
 
 module _ (names : NameLists) where
-  -- it is read from any bytes that begin with a text of it
-  pub journal-is : (items : List Item) (answers : List Response) (more bytes : List ℕ) → IsJournal names items → text_of names items answers ++ more ≡ bytes → (rest : Lines) × (journal_at names (lines_of bytes) ≡ Ok (items, rest))
-  journal-is items answers more bytes is same =
-      let rest = (answers_head_text (length answers) ++ flat_map (answer_text names) answers) ++ more in
-      let plain : ArePlain (journal_lines names items) = (count_line_reads.plain (length items) is.few, items-plain names items is.each) in (
-        lines_of rest,
-        ap (λ (bs : List ℕ). journal_at names (lines_of bs)) (sym same ∙ begins names items answers more)
-            ∙ (ap (journal_at names) (lines-front (journal_lines names items) rest plain) ∙ (journal_reads names).again items (is.few, is.each) (lines_of rest)),
-      )
-
-  -- and what is read is a journal
-  pub read-journal : (bytes : List ℕ) (items : List Item) (rest : Lines) → journal_at names (lines_of bytes) ≡ Ok (items, rest) → IsJournal names items
-  read-journal bytes items rest e = let taken = (journal_reads names).takes (lines_of bytes) items rest e in record { few = taken.1.0; each = taken.1.1 }
-
   -- ---- its items
 
   all-items : (P : Item → Type 0) → ((item : Item) → IsItem names item → P item) → (items : List Item) → AllByRecursion (IsItem names) items → All P items
@@ -100,13 +84,13 @@ module _ (names : NameLists) where
       let cut = work-cut bytes in
       let journal : IsJournal names is.printed.items = record { few = is.text.conditions.few; each = is.text.conditions.items } in
       subst (λ (is : List Item). (rest : Lines) × (journal_at names (lines_of bytes) ≡ Ok (is, rest))) is.journal
-      (journal-is is.printed.items is.printed.answers cut.0 bytes journal (ap (λ (bs : List ℕ). bs ++ cut.0) is.text.text ∙ cut.1))
+      (journal-is names is.printed.items is.printed.answers cut.0 bytes journal (ap (λ (bs : List ℕ). bs ++ cut.0) is.text.text ∙ cut.1))
 
   -- the right text
   pub right-begins : (portfolio : Accepted) (items : List Item) (has_work : Bool) (bytes : List ℕ) → IsJournal names items → bytes ≡ right_text portfolio names items has_work → (rest : Lines) × (journal_at names (lines_of bytes) ≡ Ok (items, rest))
   right-begins portfolio items has_work bytes journal is =
       let cut = by (has_work && is_of_one_caller items) in
-      journal-is items (map printed_answer (answers_of portfolio.contracts names items)) cut.0 bytes journal (cut.1 ∙ sym is)
+      journal-is names items (map printed_answer (answers_of portfolio.contracts names items)) cut.0 bytes journal (cut.1 ∙ sym is)
     where
       by : (b : Bool) → (more : List ℕ) × (output_of portfolio names items ++ more ≡ (if b then eval_text portfolio names items else output_of portfolio names items))
       by true = (work_line (work_of portfolio items), refl)

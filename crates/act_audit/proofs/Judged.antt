@@ -1,16 +1,17 @@
 -- What is said of a text.
-use Rattle.std.proofs.Common.{◌≡◌, ◌≢◌, ◌⊎◌, ℕ, ◌+◌, ◌≤◌, arith, inl, inr, List, [], ◌∷◌, length, None, Some, Result, Ok, Err, IfOk, refl, sym, ap, subst, ◌∙◌}
-use Rattle.act_audit.specs.Audit.{ComputesAsEval}
+use Rattle.std.proofs.Common.{◌≡◌, ◌≢◌, ◌⊎◌, ℕ, ◌+◌, ◌≤◌, arith, inl, inr, List, [], ◌∷◌, length, None, Some, Ok, Err, refl, sym, ap, subst, ◌∙◌}
+use Rattle.act_audit.specs.Audit.{rows_for, rows_of_text, rows_within}
 use Rattle.act_audit.specs.Journal.{IsTextOfJournal, as_one_caller, first_past, right_text}
 use Rattle.act_audit.specs.Judging.{IsOrdered, IsRightText, IsVerdictFor}
+use Rattle.act_audit.specs.Laws.{RightTextsCountAsEval}
 use Rattle.act_audit.specs.Order.{IsFirstDisorder, IsOfScripts}
 use Rattle.act_audit.proofs.Orders.{no-disorder}
 use Rattle.act_session.specs.Interleaving.{IsInterleaving}
 use Rattle.act_audit.specs.Text.{code_in_line, first_difference, has_work_line, names_for, text_in, with_code, with_codes}
-use Rattle.act_audit.specs.Verdict.{AuditJob, IsOutOfOrder, IsRight, IsRightFor, IsVerdictOn, IsWrong, names_of}
+use Rattle.act_audit.specs.Verdict.{AuditJob, IsOutOfOrder, IsRight, IsRightFor, IsVerdictOn, IsWrong, RightTextsHaveOneJournal, names_of}
 use Rattle.act_audit.specs.declared.verdict.Verdict.{Verdict}
 use Rattle.act_audit.specs.declared.verdict.Verdict.TheVariants.{Right, Wrong, Disorder}
-use Rattle.act_audit.proofs.Journals.{read-journal, right-begins, text-begins}
+use Rattle.act_audit.proofs.Journals.{right-begins, text-begins}
 use Rattle.act_model.specs.Names.{NameLists}
 use Rattle.act_model.specs.declared.journal.Item.{Item}
 use Rattle.act_model.specs.declared.journal.Line.{Line}
@@ -18,7 +19,7 @@ use Rattle.act_portfolio.specs.Reading.{Accepted}
 use Rattle.act_print.specs.Faults.{IsFirstFault, IsTextOf, lines_of}
 use Rattle.act_print.specs.Printed.{Transcript}
 use Rattle.act_print.specs.Reading.{Lines, Reading, journal_at}
-use Rattle.act_print.proofs.Readers.{ok_is}
+use Rattle.act_print.proofs.Journals.{one-read, read-journal}
 use Rattle.act_job.specs.Scripts.{Scripts}
 use Rattle.act_eval.specs.Work.{work_of}
 
@@ -59,9 +60,6 @@ parts-of job portfolio scripts lists names more entries text read is scripts-are
   text_is = ap (λ (j : AuditJob). j.text) is;
   lists_are = ap (λ (s : Scripts). s.lists) scripts-are ∙ ap (λ (j : AuditJob). j.scripts.lists) is;
 }
-
-one-read : (names : NameLists) (lines : Lines) (items others : List Item) (rest more : Lines) → journal_at names lines ≡ Ok (items, rest) → journal_at names lines ≡ Ok (others, more) → items ≡ others
-one-read names lines items others rest more is also = ap (λ (p : List Item × Lines). p.0) (ok_is (items, rest) (others, more) (sym is ∙ also))
 
 not-read : (names : NameLists) (lines left : Lines) (others : List Item) (more : Lines) → journal_at names lines ≡ Err left → journal_at names lines ≡ Ok (others, more) → ⊥
 not-read names lines left others more is also = let h = sym is ∙ also in absurd (cc)
@@ -108,9 +106,6 @@ module _ (job : AuditJob) where
       ];
     }
 
-    pub computed : (answers rows : ℕ) → IsVerdictFor job.portfolio (names_of job) job.text job.scripts.lists items (Right answers) → rows ≡ work_of job.portfolio (as_one_caller items) → ComputesAsEval job rows
-    computed answers rows said counted = (items, right-for said.0, counted)
-
 -- a right text of scripts isn't out of order
 of-given : (scripts : List (List Line)) (items : List Item) → 1 ≤ length scripts → IsOfScripts scripts items → IsInterleaving scripts items
 of-given [] items given of = absurd (omega (arith, given))
@@ -140,20 +135,15 @@ module _ (job : AuditJob) (portfolio : Accepted) (names : NameLists) (text : Lis
       → IsVerdictFor portfolio names bytes read items verdict → IsVerdictOn job verdict
   said-of found bytes read items rest verdict found-is is same lists-are said = so-said job items rest (read-of found (Ok (items, rest)) found-is is) verdict (verdict-of bytes read items verdict same lists-are said)
 
-  -- so many rows are counted as are computed
-  pub counted-of : {E : Type 0} (found bytes : List ℕ) (read : List (List Line)) (items : List Item) (rest : Lines) (before now : ℕ) (r : Result Verdict E) → found ≡ text → journal_at names (lines_of found) ≡ Ok (items, rest) → bytes ≡ text → read ≡ lists
-      → IfOk r (IsVerdictFor portfolio names bytes read items)
-      → IfOk r (λ verdict. (rows : ℕ) × (now ≡ before + rows) × ((answers : ℕ) → verdict ≡ Right answers → rows ≡ work_of portfolio (as_one_caller items)))
-      → IfOk r (λ verdict. (rows : ℕ) × (now ≡ before + rows) × ((answers : ℕ) → verdict ≡ Right answers → ComputesAsEval job rows))
-  counted-of found bytes read items rest before now (Err fault) found-is is same lists-are said counted = tt
-  counted-of found bytes read items rest before now (Ok verdict) found-is is same lists-are said counted = (
-    counted.0,
-    counted.1,
-    λ answers right.
-        computed job items rest (read-of found (Ok (items, rest)) found-is is) answers counted.0
-        (verdict-of bytes read items (Right answers) same lists-are (subst (IsVerdictFor portfolio names bytes read items) right said))
-        (counted.2 answers right ∙ ap (λ (p : Accepted). work_of p (as_one_caller items)) of.portfolio_is),
-  )
+  -- so many rows are computed as the journal that is read takes
+  pub counted-of : (found : List ℕ) (items : List Item) (rest : Lines) → found ≡ text → journal_at names (lines_of found) ≡ Ok (items, rest)
+      → rows_within portfolio items (first_past portfolio items) ≡ rows_of_text job
+  counted-of found items rest found-is is =
+      ap (λ (p : Accepted). rows_within p items (first_past p items)) of.portfolio_is ∙ sym (ap (rows_for job.portfolio) (read-of found (Ok (items, rest)) found-is is))
+
+  -- and none where none is read
+  pub none-counted : (found : List ℕ) (left : Lines) → found ≡ text → journal_at names (lines_of found) ≡ Err left → rows_of_text job ≡ 0
+  none-counted found left found-is is = ap (rows_for job.portfolio) (read-of found (Err left) found-is is)
 
   pub none-of : (found bytes : List ℕ) (left : Lines) (verdict : Verdict) → found ≡ text → journal_at names (lines_of found) ≡ Err left → bytes ≡ text
       → (line : ℕ) × (verdict ≡ Wrong line) × IsFirstFault names (text_in bytes) line → IsVerdictOn job verdict
@@ -167,16 +157,25 @@ no-text-of names found bytes left same is items text =
     let read = text-begins names bytes items text in
     not-read names (lines_of bytes) left items read.0 (ap (λ (bs : List ℕ). journal_at names (lines_of bs)) (sym same) ∙ is) read.1
 
--- nothing is computed where no verdict is that a text is right
-pub none-counted : {E : Type 0} (Counts : ℕ → Type 0) (IsWrongAt : ℕ → Type 0) (before : ℕ) (r : Result Verdict E) → IfOk r (λ verdict. (line : ℕ) × (verdict ≡ Wrong line) × IsWrongAt line)
-    → IfOk r (λ verdict. (rows : ℕ) × (before ≡ before + rows) × ((answers : ℕ) → verdict ≡ Right answers → Counts rows))
-none-counted Counts IsWrongAt before (Err fault) said = tt
-none-counted Counts IsWrongAt before (Ok verdict) said = (0, omega arith, λ answers right. absurd (let never : Right answers ≡ Wrong said.0 = sym right ∙ said.1 in cc))
+-- no rows are computed where a journal is too much
+pub past-counted : (portfolio : Accepted) (items : List Item) (line before : ℕ) → first_past portfolio items ≡ Some line → before ≡ before + rows_within portfolio items (first_past portfolio items)
+past-counted portfolio items line before past = rw past (omega arith)
 
--- or so many rows whatever the verdict is
-pub all-counted : {E : Type 0} (before now rows : ℕ) (r : Result Verdict E) → now ≡ before + rows → IfOk r (λ verdict. (count : ℕ) × (now ≡ before + count) × ((answers : ℕ) → verdict ≡ Right answers → count ≡ rows))
-all-counted before now rows (Err fault) ticked = tt
-all-counted before now rows (Ok verdict) ticked = (rows, ticked, λ answers right. refl)
+-- else those of its steps, made by one caller
+pub within-counted : (portfolio : Accepted) (items : List Item) (before now : ℕ) → first_past portfolio items ≡ None → now ≡ before + work_of portfolio (as_one_caller items) → now ≡ before + rows_within portfolio items (first_past portfolio items)
+within-counted portfolio items before now within ticked = rw within ticked
+
+-- ---- laws
+
+-- right texts of one job have one journal
+pub right-texts-have-one-journal : RightTextsHaveOneJournal
+right-texts-have-one-journal job items others is also = let read = right-reads job others also in the-same job others read.0 read.1 items (right-reads job items is)
+
+-- so many rows are computed for a right text as `eval` computes
+pub right-texts-count-as-eval : RightTextsCountAsEval
+right-texts-count-as-eval job items is =
+    let read = right-reads job items is in
+    ap (rows_for job.portfolio) read.1 ∙ ap (rows_within job.portfolio items) is.within
 
 -- ---- the verdict on a text that begins with a journal
 

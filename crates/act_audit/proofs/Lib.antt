@@ -1,9 +1,7 @@
 pub mod Alike
-pub mod Answered
 pub mod AskCounts
 pub mod ByCaller
 pub mod EntriesPast
-pub mod Fronts
 pub mod Goings
 pub mod Journals
 pub mod Judged

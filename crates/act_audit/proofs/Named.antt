@@ -27,7 +27,7 @@ use Rattle.act_print.proofs.TranscriptLaws.{items_lines, journal_lines as transc
 use Rattle.act_print.proofs.WordLaws.{IsCount, caller_reads, count_reads, if_some, name_reads, some_is}
 use Rattle.act_text.specs.Lines.{name_of}
 use Rattle.act_audit.specs.Text.{code_in_line, journal_lines, names_for, with_code, with_codes}
-use Rattle.act_audit.proofs.Fronts.{begins, items-plain, line-front, lines-front}
+use Rattle.act_print.proofs.Fronts.{begins, items-plain, line-front, lines-front}
 
 -- ---- names that grow
 

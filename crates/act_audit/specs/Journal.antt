@@ -1,6 +1,6 @@
 -- The journal of a text, and the right text of a journal. This profile's own.
-use Rattle.std.specs.Prelude.{◌≡◌, ℕ, ◌+◌, ◌^◌, ◌<◌, ◌==◌, nat_lt, ◌&&◌, if◌then◌else◌, Bool, List, [], ◌∷◌, count_by, length, map, take, Option, option_map}
-use Rattle.std.specs.List.{AllByRecursion, enumerate_from, find, list_all, range_with_len}
+use Rattle.std.specs.Prelude.{◌≡◌, ℕ, ◌+◌, ◌==◌, nat_lt, ◌&&◌, if◌then◌else◌, Bool, List, [], ◌∷◌, count_by, length, map, take, Option, option_map}
+use Rattle.std.specs.List.{enumerate_from, find, list_all, range_with_len}
 use Rattle.std.specs.Option.{option_or}
 use Rattle.act_model.specs.Asks.{appends}
 use Rattle.act_model.specs.Limits.{most_entries}
@@ -8,17 +8,11 @@ use Rattle.act_model.specs.Names.{NameLists}
 use Rattle.act_model.specs.declared.journal.Item.{Item}
 use Rattle.act_model.specs.declared.journal.Line.{Line}
 use Rattle.act_portfolio.specs.Reading.{Accepted}
-use Rattle.act_print.specs.Conditions.{IsItem}
 use Rattle.act_print.specs.Faults.{IsTextOf}
 use Rattle.act_print.specs.Printed.{Transcript}
 use Rattle.act_eval.specs.Evaluation.{eval_text}
 use Rattle.act_job.specs.Weight.{too_much_asked}
 use Rattle.act_transcript.specs.Text.{output_of}
-
--- a journal that can be printed: fewer than 2^64 items of callers from 1 to 16, of which each names what there is
-pub record IsJournal (names : NameLists) (items : List Item) : Type 0 where
-  pub few : length items < 2 ^ 64
-  pub each : AllByRecursion (IsItem names) items
 
 -- the bytes are the text of this journal, with whatever answers
 pub record IsTextOfJournal (names : NameLists) (bytes : List ℕ) (items : List Item) : Type 0 where

@@ -1,6 +1,6 @@
 -- What is said of a text. This profile's own.
 use Rattle.std.specs.Prelude.{◌≡◌, ◌⊎◌, ◌≤◌, ℕ, List, [], ◌∷◌, codes, decimal, length, None, Some}
-use Rattle.act_audit.specs.Journal.{IsJournal, IsTextOfJournal, first_past, right_text}
+use Rattle.act_audit.specs.Journal.{IsTextOfJournal, first_past, right_text}
 use Rattle.act_audit.specs.Order.{IsFirstDisorder, IsOfScripts}
 use Rattle.act_audit.specs.Text.{first_difference, has_work_line, names_for, text_in}
 use Rattle.act_engine.specs.declared.status.Status.{Status}
@@ -11,6 +11,7 @@ use Rattle.act_model.specs.Asks.{asks_of}
 use Rattle.act_model.specs.Names.{NameLists}
 use Rattle.act_model.specs.declared.journal.Item.{Item}
 use Rattle.act_portfolio.specs.Reading.{Accepted}
+use Rattle.act_print.specs.Conditions.{IsJournal}
 use Rattle.act_print.specs.Faults.{IsFirstFault}
 use Rattle.act_text.specs.Lines.{line_of}
 use Rattle.act_session.specs.Interleaving.{IsInterleaving}
@@ -74,6 +75,10 @@ IsVerdictOn job (Disorder line caller) = IsOutOfOrder job line caller
 -- no two verdicts on a text are both so
 abbrev pub OneVerdict : Type 0
 OneVerdict = (job : AuditJob) (one other : Verdict) → IsVerdictOn job one → IsVerdictOn job other → one ≡ other
+
+-- a text is the right one of one journal alone
+abbrev pub RightTextsHaveOneJournal : Type 0
+RightTextsHaveOneJournal = (job : AuditJob) (items others : List Item) → IsRightFor job items → IsRightFor job others → items ≡ others
 
 -- Where scripts are given a right text is that of an interleaving of them, with the names that the scripts are read with, as a run of the desk
 -- writes it: the text's own codes add none.

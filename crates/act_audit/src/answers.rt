@@ -1,48 +1,18 @@
-//! The right answers to the asks of a journal, evaluated on one thread.
+//! The right answers to the asks of a journal, caller by caller.
 ghost use Rattle.std.specs.Prelude.{◌≡◌, ◌+◌, ◌-◌, ◌≤◌, ◌<◌, ◌^◌, [], length, count_by, get_or, replicate, IfOk, OnOk, not};
 ghost use Rattle.std.specs.List.{All};
 ghost use Rattle.act_audit.specs.Journal.{as_one_caller};
 ghost use Rattle.act_audit.specs.Judging.{answer_lists, with_answer};
-ghost use Rattle.act_history.specs.History.{entries_of, replies_of};
-ghost use Rattle.act_model.specs.Journal.{book_of, is_append};
+ghost use Rattle.act_history.specs.History.{replies_of};
+ghost use Rattle.act_model.specs.Journal.{is_append};
 ghost use Rattle.act_model.specs.Names.{NameLists};
 ghost use Rattle.act_model.specs.declared.journal.Item.{Item as JournalItem};
 ghost use Rattle.act_profile.specs.Answers.{answers_of};
 ghost use Rattle.act_profile.specs.Run.{Contracts};
-ghost use Rattle.act_transcript.specs.Text.{items_of};
-ghost use Rattle.act_eval.specs.Work.{work_of};
 
-use act_board::Board;
-use act_eval::{Driver, Evaluation};
 use act_model::{Answer, Item, MOST_CALLERS, Step};
-use act_num::{NoMemory, Steps};
-use act_transcript::Blocks;
+use act_num::NoMemory;
 use std::alloc::Global;
-use std::sync::ledger::Ledger;
-
-/// The answers to the asks of lines, in their order, and the board on which they were made.
-pub(crate) fn answers_in_order<L: Ledger>(
-    alloc: Global,
-    evaluation: &Evaluation<'_>,
-    steps: &mut Steps<L>,
-) -> Result<(Vec<Answer>, Board), NoMemory>
-    ensures answers { IfOk result (λ made. made.0.items
-        ≡ answers_of evaluation.now.portfolio.contracts evaluation.now.names (items_of evaluation.now.lines)) }
-    ensures portfolio { IfOk result (λ made. made.1.portfolio ≡ evaluation.now.portfolio) }
-    ensures entries { IfOk result (λ made. entries_of made.1 ≡ book_of (items_of evaluation.now.lines)) }
-    ensures ticked { IfOk result (λ _. steps.new ≡ steps.old + work_of evaluation.now.portfolio (items_of evaluation.now.lines)) }
-{
-    let blocks = Blocks::none(alloc, evaluation.names);
-    let mut driver = Driver::new(alloc, evaluation, blocks)?;
-    let mut answers = Vec::new(alloc);
-    for step in evaluation.lines {
-        match step.step {
-            Step::Append(entry) => driver.append(entry)?,
-            Step::Ask(asked) => answers.push(driver.answer(alloc, asked, steps)?)?,
-        }
-    }
-    Ok((answers, driver.board))
-}
 
 /// The answers to the asks of a journal, given in its order, caller by caller: each list by number.
 pub(crate) fn by_caller(

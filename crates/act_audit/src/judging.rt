@@ -2,12 +2,12 @@
 ghost use Rattle.std.specs.Prelude.{◌≡◌, ◌≢◌, ◌⊎◌, ◌≤◌, ◌<◌, ◌+◌, ◌^◌, ℕ, List, length, IfOk, MatchOption};
 ghost use Rattle.std.specs.List.{All};
 ghost use Rattle.std.specs.Arc.{arc_value};
-ghost use Rattle.act_audit.specs.Audit.{ComputesAsEval};
-ghost use Rattle.act_audit.specs.Journal.{IsTextOfJournal, as_one_caller, one_script, right_text};
+ghost use Rattle.act_audit.specs.Audit.{rows_of_text, rows_within};
+ghost use Rattle.act_audit.specs.Journal.{IsTextOfJournal, as_one_caller, first_past, one_script, right_text};
 ghost use Rattle.act_audit.specs.Judging.{AreItems, IsOrdered, IsVerdictFor};
 ghost use Rattle.act_audit.specs.Text.{first_difference, has_work_line, most_text, text_in};
 ghost use Rattle.act_audit.specs.Verdict.{IsVerdictOn};
-ghost use Rattle.act_audit.specs.declared.verdict.Verdict.TheVariants.{Right, Wrong};
+ghost use Rattle.act_audit.specs.declared.verdict.Verdict.TheVariants.{Wrong};
 ghost use Rattle.act_model.specs.declared.journal.Item.{Item as JournalItem};
 ghost use Rattle.act_print.specs.Faults.{IsFirstFault, IsTextOf};
 ghost use Rattle.act_print.specs.Printed.{Transcript};
@@ -49,15 +49,14 @@ impl Model for Journal {
     ghost view = { λ j. record { items = j.items.items; names = j.names } };
 }
 
-/// What is said of a text.
+/// What is said of a text. The rows of the journal with which it begins are computed, whatever is said.
 pub(crate) fn judge<L: Ledger>(
     alloc: Global,
     job: AuditJob,
     steps: &mut Steps<L>,
 ) -> Result<Verdict, NoMemory>
     ensures verdict { IfOk result (λ verdict. IsVerdictOn job verdict) }
-    ensures rows { IfOk result (λ verdict. (rows : ℕ) × (steps.new ≡ steps.old + rows)
-        × ((answers : ℕ) → verdict ≡ Right answers → ComputesAsEval job rows)) }
+    ensures rows { IfOk result (λ _. steps.new ≡ steps.old + rows_of_text job) }
 {
     let AuditJob { job, text } = job;
     let Job {
@@ -89,7 +88,7 @@ fn no_text(alloc: Global, names: &Names, text: &[u8]) -> Result<Verdict, NoMemor
     }
 }
 
-/// What is said of a text that begins with a journal.
+/// What is said of a text that begins with a journal. The journal's rows are computed, unless it is more than `actus` takes.
 fn judge_journal<L: Ledger>(
     alloc: Global,
     portfolio: &Arc<Portfolio, Global>,
@@ -103,8 +102,8 @@ fn judge_journal<L: Ledger>(
     requires contracts { journal.names.contracts ≡ (arc_value portfolio.now).names.contracts }
     requires few_scripts { length scripts.now ≤ MOST_CALLERS }
     ensures verdict { IfOk result (λ verdict. IsVerdictFor (arc_value portfolio.now) journal.names text.now (line_lists scripts.now) journal.items verdict) }
-    ensures rows { IfOk result (λ verdict. (rows : ℕ) × (steps.new ≡ steps.old + rows)
-        × ((answers : ℕ) → verdict ≡ Right answers → rows ≡ work_of (arc_value portfolio.now) (as_one_caller journal.items))) }
+    ensures rows { IfOk result (λ _. steps.new ≡ steps.old
+        + rows_within (arc_value portfolio.now) journal.items (first_past (arc_value portfolio.now) journal.items)) }
 {
     let Journal { items, names } = journal;
     let lines = one_script(alloc, &items)?;

@@ -7,7 +7,7 @@ ghost use Rattle.act_eval.specs.Evaluation.{eval_text};
 ghost use Rattle.act_eval.specs.Work.{work_of};
 ghost use Rattle.act_transcript.specs.Text.{items_of, output_of};
 
-use crate::answers::{answers_in_order, by_caller};
+use crate::answers::by_caller;
 use crate::journal::is_of_one_caller;
 use crate::sheet::Sheet;
 use act_engine::{Failure, Status};
@@ -75,7 +75,7 @@ fn write_several<L: Ledger>(
         (record { written = Some sheet.old; faults = 0 }) result (record { written = Some sheet.new; faults = 0 }) }
     ensures ticked { IfOk result (λ _. steps.new ≡ steps.old + work_of evaluation.now.portfolio (as_one_caller items.now)) }
 {
-    let (answers, mut board) = answers_in_order(alloc, evaluation, steps)?;
+    let (answers, mut board) = evaluation.answers(alloc, steps)?;
     let lists = by_caller(alloc, items, answers)?;
     let count = answer_count(&lists);
     let contracts = evaluation.portfolio.named() as usize;

@@ -20,7 +20,8 @@ use std::sync::ledger::Ledger;
 /// steps of this caller; or the line that refuses the portfolio or a script, as `actus` does.
 ///
 /// The text may have 4,294,967,294 bytes. The journal is taken from it, and its asks are evaluated once more, over the entries before
-/// them, on one thread. A line `work N` behind the answers is compared too, where there is one.
+/// them, on one thread, unless it is more than `actus` takes; the rows are counted, whatever is said of the text. A line `work N`
+/// behind the answers is compared too, where there is one.
 pub fn audit_top<F: Files, K: Sink, L: Ledger>(
     alloc: Global,
     words: &[String],

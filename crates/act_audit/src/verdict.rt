@@ -1,6 +1,6 @@
 //! What is said of a text.
 ghost use Rattle.std.specs.Prelude.{◌≡◌, IfOk};
-ghost use Rattle.act_audit.specs.Verdict.{OneVerdict, RightIsOfScripts, verdict_line, verdict_status};
+ghost use Rattle.act_audit.specs.Verdict.{OneVerdict, RightIsOfScripts, RightTextsHaveOneJournal, verdict_line, verdict_status};
 
 use act_engine::{Status, line_of};
 use act_num::NoMemory;
@@ -54,6 +54,11 @@ impl Verdict {
 /// A law, which does nothing: of a text no two verdicts are both so.
 pub fn no_two_verdicts_are_both_so()
     ensures { OneVerdict }
+{}
+
+/// A law, which does nothing: a text is the right one of one journal alone.
+pub fn right_texts_have_one_journal()
+    ensures { RightTextsHaveOneJournal }
 {}
 
 /// A law, which does nothing: where scripts are given a right text is that of an interleaving of them, as a run of the desk writes it.

@@ -27,7 +27,7 @@ use Rattle.act_binding.proofs.Graphed.{AllFit, fits_at, shadow_at, within}
 use Rattle.act_cones.proofs.Orders.{plan_each}
 use Rattle.act_cones.proofs.Lists.{all_at, either_at, first_behind, first_of_pair, in_a_pair, made_at, slice_get_before}
 use Rattle.act_binding.proofs.Shadowed.{as_many_numbers}
-use Rattle.act_binding.proofs.Unchanged.{of_shadows}
+use Rattle.act_binding.proofs.Unchanged.{kinds_of_shadows}
 
 -- ---- caps and floors
 
@@ -172,7 +172,7 @@ module _ (named : List NamedTerms) (plans : List EventPlan) (all : AllFit (listi
             let found = made_at (bound (listing_of named) plans) (numbered named) c t first in
             subst (λ (own : Terms). KnowsChildren contracts (children_at contracts c) own.kind) found.2 (knows_at c found.0 found.1)
         | inr last ↦
-            let own = of_shadows (λ k. Unit {0}) (λ k. (children : List ℕ) → KnowsChildren contracts children k) (shadow_knows contracts) (listing_of named) (λ d u is. tt) (numbered named) in
+            let own = kinds_of_shadows (λ k. Unit {0}) (λ k. (children : List ℕ) → KnowsChildren contracts children k) (shadow_knows contracts) (listing_of named) (λ d u is. tt) (numbered named) in
             all_at (λ (own : Terms). (children : List ℕ) → KnowsChildren contracts children own.kind) _ own last.0 t last.1 (children_at contracts c)
       ]
 

@@ -70,35 +70,40 @@ built_within capfl (kind.ANN ann) own is built = subst IsBuilt (same_Some _ _ is
 built_within capfl (kind.SWPPV swppv) own is built = subst IsBuilt (same_Some _ _ is) (record { interest = built.interest; reset = built.reset })
 built_within capfl other own is built = absurd (cc)
 
--- what P of the kind of an underlying makes hold of the kind of its shadow, where P holds of the kinds of all contracts
+-- what P of the terms of an underlying makes hold of those of its shadow, where P holds of the terms of all contracts
+module _ (P Q : Terms → Type 0) (from : (capfl : Capfl) (n underlying : ℕ) (t shadow : Terms) → shadow_with capfl n underlying t ≡ Some shadow → P t → Q shadow) (listing : Listing) (known : (c : ℕ) (t : Terms) → terms_at listing c ≡ Some t → P t) where
+  with_terms : (capfl : Capfl) (n underlying : ℕ) (shadow : Terms) (terms : Option Terms) → ((t : Terms) → terms ≡ Some t → P t) → option_and_then (shadow_with capfl n underlying) terms ≡ Some shadow → Q shadow
+  with_terms capfl n underlying shadow None holds is = absurd (cc)
+  with_terms capfl n underlying shadow (Some terms) holds is = from capfl n underlying terms shadow is (holds terms refl)
+
+  with_underlying : (capfl : Capfl) (n : ℕ) (shadow : Terms) (underlying : Option ℕ) → shadow_on listing capfl n underlying ≡ Some shadow → Q shadow
+  with_underlying capfl n shadow None is = absurd (cc)
+  with_underlying capfl n shadow (Some underlying) is = with_terms capfl n underlying shadow (terms_at listing underlying) (known underlying) is
+
+  of_kind : (n : ℕ) (references : List Reference) (shadow : Terms) (k : Kind) → shadow_by listing n references k ≡ Some shadow → Q shadow
+  of_kind n references shadow (kind.CAPFL capfl) is = with_underlying capfl n shadow (capped_of listing references) is
+  of_kind n references shadow other is = absurd (cc)
+
+  one_more : (o : Option Terms) (others : List Terms) → ((t : Terms) → o ≡ Some t → Q t) → All Q others → All Q (cons_option o others)
+  one_more None others here rest = rest
+  one_more (Some t) others here rest = All-cons Q t others (here t refl) rest
+
+  pub of_shadows : (contracts : List Numbered) → All Q (filter_map (shadow_of listing) contracts)
+  of_shadows [] = All-nil Q
+  of_shadows (c ∷ contracts) = one_more (shadow_of listing c) _ (λ t is. of_kind c.1 c.0.references t c.0.terms.kind is) (of_shadows contracts)
+
+-- the same of kinds
 module _ (P Q : Kind → Type 0) (from : (capfl : Capfl) (k own : Kind) → kind_within capfl k ≡ Some own → P k → Q own) where
   with_own : (common : Common) (shadow : Terms) (own : Option Kind) → ((o : Kind) → own ≡ Some o → Q o) → option_map (λ (o : Kind). record { common = common; kind = o }) own ≡ Some shadow → Q shadow.kind
   with_own common shadow None holds is = absurd (cc)
   with_own common shadow (Some o) holds is = subst (λ (t : Terms). Q t.kind) (same_Some _ _ is) (holds o refl)
 
-  module _ (listing : Listing) (known : (c : ℕ) (t : Terms) → terms_at listing c ≡ Some t → P t.kind) where
-    with_terms : (capfl : Capfl) (n underlying : ℕ) (shadow : Terms) (terms : Option Terms) → ((t : Terms) → terms ≡ Some t → P t.kind) → option_and_then (shadow_with capfl n underlying) terms ≡ Some shadow → Q shadow.kind
-    with_terms capfl n underlying shadow None holds is = absurd (cc)
-    with_terms capfl n underlying shadow (Some terms) holds is = with_own _ shadow (kind_within capfl terms.kind) (λ o own. from capfl terms.kind o own (holds terms refl)) is
-
-    with_underlying : (capfl : Capfl) (n : ℕ) (shadow : Terms) (underlying : Option ℕ) → shadow_on listing capfl n underlying ≡ Some shadow → Q shadow.kind
-    with_underlying capfl n shadow None is = absurd (cc)
-    with_underlying capfl n shadow (Some underlying) is = with_terms capfl n underlying shadow (terms_at listing underlying) (known underlying) is
-
-    of_kind : (n : ℕ) (references : List Reference) (shadow : Terms) (k : Kind) → shadow_by listing n references k ≡ Some shadow → Q shadow.kind
-    of_kind n references shadow (kind.CAPFL capfl) is = with_underlying capfl n shadow (capped_of listing references) is
-    of_kind n references shadow other is = absurd (cc)
-
-    one_more : (o : Option Terms) (others : List Terms) → ((t : Terms) → o ≡ Some t → Q t.kind) → All (λ (t : Terms). Q t.kind) others → All (λ (t : Terms). Q t.kind) (cons_option o others)
-    one_more None others here rest = rest
-    one_more (Some t) others here rest = All-cons (λ (t : Terms). Q t.kind) t others (here t refl) rest
-
-    pub of_shadows : (contracts : List Numbered) → All (λ (t : Terms). Q t.kind) (filter_map (shadow_of listing) contracts)
-    of_shadows [] = All-nil (λ (t : Terms). Q t.kind)
-    of_shadows (c ∷ contracts) = one_more (shadow_of listing c) _ (λ t is. of_kind c.1 c.0.references t c.0.terms.kind is) (of_shadows contracts)
+  pub kinds_of_shadows : (listing : Listing) → ((c : ℕ) (t : Terms) → terms_at listing c ≡ Some t → P t.kind) → (contracts : List Numbered) → All (λ (t : Terms). Q t.kind) (filter_map (shadow_of listing) contracts)
+  kinds_of_shadows listing known contracts =
+      of_shadows (λ (t : Terms). P t.kind) (λ (t : Terms). Q t.kind) (λ capfl n underlying t shadow is holds. with_own _ shadow (kind_within capfl t.kind) (λ o own. from capfl t.kind o own holds) is) listing known contracts
 
 pub shadows_built : (listing : Listing) → ((c : ℕ) (t : Terms) → terms_at listing c ≡ Some t → IsBuilt t.kind) → (contracts : List Numbered) → All (λ (t : Terms). IsBuilt t.kind) (filter_map (shadow_of listing) contracts)
-shadows_built listing built contracts = of_shadows IsBuilt IsBuilt built_within listing built contracts
+shadows_built listing built contracts = kinds_of_shadows IsBuilt IsBuilt built_within listing built contracts
 
 -- ---- what binding gives
 

@@ -25,16 +25,15 @@ use Rattle.act_profile.specs.Steps.{currency_of, start_of, step_of}
 use Rattle.act_profile.specs.Stops.{chosen_close, comes_before, is_until, last_reading_day, stop_at_credit, stop_day, stopped_at_credit, stopped_by, stopped_on, under_stop}
 use Rattle.act_profile.specs.Trade.{plain_plan, trade_events}
 use Rattle.act_causality.specs.Causality.{AgreeBefore, RunsAgreeBefore, is_event_before}
-use Rattle.act_causality.proofs.Children.{ChildAgrees, ChildrenAgree, cover-agree, is_row_before}
+use Rattle.act_causality.proofs.Children.{ChildAgrees, ChildrenAgree, is_row_before}
 use Rattle.act_causality.proofs.EventFacts.{all-events, all-in_order, all-true}
 use Rattle.act_causality.proofs.Fold.{AgreeAt, Step, run_from-agree, taken_rows}
 use Rattle.act_causality.proofs.KindEvents.{events-agree, events-cut}
-use Rattle.act_causality.proofs.KindSteps.{HasCodes, guarantee_step-agree, kind-in, line_step-agree, stops_on_the_day}
-use Rattle.act_causality.proofs.LegRows.{ArePaired, HasRows, currencies-agree, lines-agree, own-rows, row_events-have}
-use Rattle.act_causality.proofs.Lines.{kind-reads}
+use Rattle.act_causality.proofs.KindSteps.{HasCodes, stops_on_the_day}
+use Rattle.act_causality.proofs.LegRows.{ArePaired, HasRows, currencies-agree, own-rows, row_events-have}
 use Rattle.act_causality.proofs.Lists.{IsCut, Late, cut-filter}
 use Rattle.act_causality.proofs.Observations.{same_observation}
-use Rattle.act_causality.proofs.Steps.{SameValues}
+use Rattle.act_causality.proofs.OwnDay.{own-day, until-day}
 use Rattle.act_causality.proofs.Places.{same_currency, same_step}
 use Rattle.act_causality.proofs.Plans.{ScalesWhereScaled, plan-scales}
 use Rattle.act_causality.proofs.Scheduled.{CoveredIn}
@@ -81,6 +80,22 @@ events-known terms plan entries children planned pairs =
     all-events (IsKnown terms.kind children) terms plan entries children (scheduled-known terms.common terms.kind children plan entries planned)
     (all-weaker IsPlainEvent (IsKnown terms.kind children) (plain-known terms.kind children) (events_observed terms entries) (plain-observed terms entries))
     (rows-known terms.common terms.kind children pairs)
+
+known-scales : (contract : Kind) (children : List Stream) (e : Event) → IsKnown contract children e → ScalesWhereScaled contract e
+known-scales contract children e known = known.scales
+
+rows-scale : (common : Common) (contract : Kind) (children : List Stream) → AllByRecursion (ScalesWhereScaled contract) (events_of_children common contract children)
+rows-scale common (kind.SWAPS swaps) children = all-true (ScalesWhereScaled (kind.SWAPS swaps)) (λ e is. tt) _
+rows-scale common (kind.CAPFL capfl) children = all-true (ScalesWhereScaled (kind.CAPFL capfl)) (λ e is. tt) _
+rows-scale common contract children = tt
+
+-- of scalings it is known over any children
+pub events-scale : (terms : Terms) (plan : EventPlan) (entries : List Obs) (children : List Stream) → plan_by terms.common terms.kind ≡ Ok plan → AllByRecursion (ScalesWhereScaled terms.kind) (events_of terms plan entries children)
+events-scale terms plan entries children planned =
+    all-events (ScalesWhereScaled terms.kind) terms plan entries children
+    (all-weaker (IsKnown terms.kind children) (ScalesWhereScaled terms.kind) (known-scales terms.kind children) _ (scheduled-known terms.common terms.kind children plan entries planned))
+    (all-weaker IsPlainEvent (ScalesWhereScaled terms.kind) (λ e plain. known-scales terms.kind children e (plain-known terms.kind children e plain)) (events_observed terms entries) (plain-observed terms entries))
+    (rows-scale terms.common terms.kind children)
 
 -- ---- rows are cut at the day
 
@@ -158,12 +173,9 @@ module _ (day : ℤ) (codes contracts : List ℕ) (one other : List Obs) (agree 
   module _ (terms : Terms) (plan : EventPlan) (children others : List Stream) (kids : ChildrenAgree day children others) (has : HasCodes codes (codes_of terms)) where
     -- the step of an event dated before the day is the same
     pub step-agree : (s : State) (event : Event) → is_event_before day event ≡ true → IsKnown terms.kind children event → step_of terms plan one children s event ≡ step_of terms plan other others s event
-    unfolding step_of
     step-agree s event early known =
-        let values : SameValues event.day codes one other = λ code within. same_observation day event.day codes contracts code within early one other agree in
-        guarantee_step-agree codes one other event values event.kind terms plan children others s terms.kind (kind-in codes terms has) (cover-agree day event.day early children others kids terms.kind)
-        (line_step-agree codes one other event values terms plan children others s has (lines-agree day children others kids terms.common terms.kind plan event early known.rows)
-        (kind-reads terms.common terms.kind plan others event known.scales))
+        own-day terms plan event known.scales one other children (λ code within. same_observation day event.day codes contracts code (has code within) early one other agree) s
+        ∙ until-day terms plan other children event known.scales known.rows day others early kids s
 
     steps-agree : AgreeAt day (step_of terms plan one children) (step_of terms plan other others) (currency_of terms children) (currency_of terms others) (IsKnown terms.kind children) (λ e. Unit {0})
     steps-agree = record {

@@ -19,8 +19,8 @@ use Rattle.act_profile.specs.Order.{is_own}
 use Rattle.act_profile.specs.Reads.{codes_of, given_code, kind_codes}
 use Rattle.act_profile.specs.Step.{StepLine, step_by, unpaid}
 use Rattle.act_profile.specs.Steps.{accrual_by, factor_for, guarantee_step_by, is_unpaid, line_by, step_by_line, step_of}
-use Rattle.act_causality.specs.Causality.{StopsOnTheDay}
-use Rattle.act_causality.proofs.Steps.{SameValues, IsRead, LineReads, OnDay, given-read, in_first, in_second, line-more, on_day-stop, overflow-on_day, read-more, reading_all-agree, reading_all-on_day, step_by-agree, step_by-on_day, unpaid-reads}
+use Rattle.act_causality.specs.Causality.{HaveSameValues, StopsOnTheDay}
+use Rattle.act_causality.proofs.Steps.{IsRead, LineReads, OnDay, given-read, in_first, in_second, line-more, on_day-stop, overflow-on_day, read-more, reading_all-agree, reading_all-on_day, step_by-agree, step_by-on_day, unpaid-reads}
 
 -- ---- stops
 
@@ -46,7 +46,7 @@ stops_on_the_day terms plan entries children = record {
 
 -- ---- lines
 
-factor-in : (codes : List ℕ) (terms : Terms) (own : Bool) → HasCodes codes (codes_of terms) → IsRead codes (factor_for terms own)
+pub factor-in : (codes : List ℕ) (terms : Terms) (own : Bool) → HasCodes codes (codes_of terms) → IsRead codes (factor_for terms own)
 factor-in codes terms true has =
     read-more (given_code (factor_of terms.common terms.kind)) codes
     (λ code is. has code (in_first (given_code (factor_of terms.common terms.kind)) (kind_codes terms.kind) code is)) (factor_of terms.common terms.kind) (given-read (factor_of terms.common terms.kind))
@@ -61,7 +61,7 @@ SameCover (kind.CEG ceg) children others day = (values : List ℤ) → covered_p
 SameCover (kind.CEC cec) children others day = (values : List ℤ) → covered_part cec.guarantee children day values ≡ covered_part cec.guarantee others day values
 SameCover contract children others day = Unit {0}
 
-module _ (codes : List ℕ) (one other : List Obs) (event : Event) (values : SameValues event.day codes one other) where
+module _ (codes : List ℕ) (one other : List Obs) (event : Event) (values : HaveSameValues event.day codes one other) where
   -- the step of an event that has a line, where the line is the same over the children
   pub line_step-agree : (terms : Terms) (plan : EventPlan) (children others : List Stream) (s : State) → HasCodes codes (codes_of terms) →
       line_by terms.common terms.kind plan children event ≡ line_by terms.common terms.kind plan others event → LineReads (kind_codes terms.kind) (line_by terms.common terms.kind plan others event) →

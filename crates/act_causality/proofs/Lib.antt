@@ -17,6 +17,7 @@ pub mod Stopped
 pub mod Legs
 pub mod LegRows
 pub mod KindEvents
+pub mod OwnDay
 pub mod KindRuns
 pub mod References
 pub mod Cone

@@ -16,6 +16,7 @@ use Rattle.act_profile.specs.Reads.{given_code, is_in}
 use Rattle.act_profile.specs.Run.{close_of}
 use Rattle.act_profile.specs.Step.{Payoff, StepLine, change_code, factor_code, nothing, outcome, payoff_code, pays, pays_by, reading, step_by, unpaid, with_value}
 use Rattle.act_profile.specs.Stops.{stop_day}
+use Rattle.act_causality.specs.Causality.{HaveSameValues}
 
 -- ---- codes in lists
 
@@ -69,7 +70,7 @@ pub unpaid-reads : (codes : List ℕ) (before : Bool) (line : StepLine) → Line
 unpaid-reads codes true line reads = record { payoff = tt; change = reads.change }
 unpaid-reads codes false line reads = reads
 
-factor-read : (codes : List ℕ) (factor : Option ℕ) (payoff : Payoff) → IsRead codes factor → IsRead codes (factor_code factor payoff)
+pub factor-read : (codes : List ℕ) (factor : Option ℕ) (payoff : Payoff) → IsRead codes factor → IsRead codes (factor_code factor payoff)
 factor-read codes factor nothing is = tt
 factor-read codes factor (pays amount) is = is
 factor-read codes factor (pays_by code amount) is = is
@@ -80,11 +81,7 @@ value-agree : {A : Type 0} (code : ℕ) (day : ℤ) (value : Option ℤ) (f g : 
 value-agree code day None f g same = refl
 value-agree code day (Some x) f g same = same x
 
--- the codes of a list have the same values on a day
-abbrev pub SameValues : ℤ → List ℕ → List Obs → List Obs → Type 0
-SameValues t codes one other = (code : ℕ) → is_in codes code ≡ true → observation one code t ≡ observation other code t
-
-module _ (t : ℤ) (codes : List ℕ) (one other : List Obs) (values : SameValues t codes one other) where
+module _ (t : ℤ) (codes : List ℕ) (one other : List Obs) (values : HaveSameValues t codes one other) where
   reading-agree : {A : Type 0} (code : Option ℕ) → IsRead codes code → (f g : Option ℤ → Result A Stop) → ((x : Option ℤ) → f x ≡ g x) → reading one t code f ≡ reading other t code g
   reading-agree None is f g same = same None
   reading-agree (Some code) is f g same =
@@ -102,7 +99,7 @@ module _ (t : ℤ) (codes : List ℕ) (one other : List Obs) (values : SameValue
       (λ x. reading_all-agree more (λ c is. within c (in_second (code ∷ []) more c is)) (λ xs. f (x ∷ xs)) (λ xs. g (x ∷ xs)) (λ xs. same (x ∷ xs)))
 
 -- the step of a line that reads no other code depends on the values of its event's day alone
-pub step_by-agree : (codes : List ℕ) (one other : List Obs) (factor : Option ℕ) (event : Event) (accrue : State → Option State) (line : StepLine) (s : State) → SameValues event.day codes one other → IsRead codes factor → LineReads codes line →
+pub step_by-agree : (codes : List ℕ) (one other : List Obs) (factor : Option ℕ) (event : Event) (accrue : State → Option State) (line : StepLine) (s : State) → HaveSameValues event.day codes one other → IsRead codes factor → LineReads codes line →
     step_by one factor event accrue line s ≡ step_by other factor event accrue line s
 step_by-agree codes one other factor event accrue line s values is reads =
     reading-agree event.day codes one other values (factor_code factor line.payoff) (factor-read codes factor line.payoff is) _ _ (λ x.

@@ -30,21 +30,13 @@ use Rattle.act_causality.proofs.Settled.{all-weaker}
 use Rattle.act_profile.specs.Run.{Contracts, row_of, with_row, own_run, rows_from, run_from, run_over, run_to, run_where_given}
 use Rattle.act_profile.specs.Steps.{currency_of, start_of, step_of}
 use Rattle.act_profile.specs.Stops.{chosen_close, stop_day, stopped_at_credit, under_stop}
-use Rattle.act_causality.specs.Causality.{ArePaired, CoveredIn, HasCodes, IsLinked, children_at}
+use Rattle.act_causality.specs.Causality.{ArePaired, CoveredIn, HasCodes, HaveSameValues, IsLinked, children_at}
 use Rattle.act_causality.proofs.Fold.{Step, taken_rows}
 use Rattle.act_causality.proofs.KindRuns.{IsKnown, events-known}
-use Rattle.act_causality.proofs.KindSteps.{SameCover, guarantee_step-agree, kind-in, line_step-agree}
-use Rattle.act_causality.proofs.Lines.{kind-reads}
 use Rattle.act_causality.proofs.Lists.{filter-within, filter_map-within}
 use Rattle.act_causality.proofs.Observations.{is_touching, untouched}
+use Rattle.act_causality.proofs.OwnDay.{own-day}
 use Rattle.act_causality.proofs.References.{Reads, kind-covered}
-use Rattle.act_causality.proofs.Steps.{SameValues}
-
--- a credit event's cover over the same children
-same_cover : (contract : Kind) (children : List Stream) (t : ℤ) → SameCover contract children children t
-same_cover (kind.CEG ceg) children t = λ values. refl
-same_cover (kind.CEC cec) children t = λ values. refl
-same_cover other children t = tt
 
 rest-same : (event : Event) (currency : ℕ) (rest rest2 : State → Stream) (taken : Result (ℤ × State) Stop) → ((s : State) → rest s ≡ rest2 s) → taken_rows event currency rest taken ≡ taken_rows event currency rest2 taken
 rest-same event currency rest rest2 (Ok taken) same = ap (with_row (row_of event currency taken)) (same taken.1)
@@ -64,7 +56,7 @@ from-same one other currency events (Ok s) all = rows-same one other currency s 
 from-same one other currency events (Err stop) all = refl
 
 module _ (codes reads : List ℕ) (one other : List Obs) (touching : filter (touches codes reads) one ≡ filter (touches codes reads) other) where
-  same_values : (t : ℤ) → SameValues t codes one other
+  same_values : (t : ℤ) → HaveSameValues t codes one other
   unfolding observation
   same_values t code within =
       let rates : rates_until one code t ≡ rates_until other code t =
@@ -118,10 +110,7 @@ module _ (codes reads : List ℕ) (one other : List Obs) (touching : filter (tou
         ∙ ap (λ (events : List Event). with_exercise terms.kind (counting terms.common.status_date terms.kind (in_order (events_scheduled terms.common terms.kind plan other ++ events ++ events_of_children terms.common terms.kind children)))) (same_observed_events terms within)
 
     same_step_at : (event : Event) → IsKnown terms.kind children event → (s : State) → step_of terms plan one children s event ≡ step_of terms plan other children s event
-    unfolding step_of
-    same_step_at event known s =
-        guarantee_step-agree codes one other event (same_values event.day) event.kind terms plan children children s terms.kind (kind-in codes terms has) (same_cover terms.kind children event.day)
-        (line_step-agree codes one other event (same_values event.day) terms plan children children s has refl (kind-reads terms.common terms.kind plan children event known.scales))
+    same_step_at event known s = own-day terms plan event known.scales one other children (λ code within. same_values event.day code (has code within)) s
 
     same_own : own_run terms plan one children ≡ own_run terms plan other children
     unfolding own_run

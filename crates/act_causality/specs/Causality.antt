@@ -4,6 +4,7 @@ use Rattle.std.specs.Prelude.{◌≡◌, IsTrue, ℕ, zero, suc, ◌⊎◌, Bool
 use Rattle.std.specs.List.{AllByRecursion, AllZip, filter, slice_get}
 use Rattle.std.specs.Option.{unwrap_or}
 use Rattle.act_date.specs.Civil.{last_day}
+use Rattle.act_model.specs.Observed.{observation}
 use Rattle.act_model.specs.Run.{EventPlan, Stream}
 use Rattle.act_model.specs.declared.event.Event.{Event}
 use Rattle.act_model.specs.declared.event.Source.{Source}
@@ -157,8 +158,7 @@ pub record StepStays (day : ℤ) (terms : Terms) (plan : EventPlan) (one other :
   pub step : (s : State) (same : Event) → IsTrue (is_event_before day event) → unplaced event ≡ unplaced same → step_of terms plan one runs s event ≡ step_of terms plan other others s same
   pub paid_in : (same : Event) → IsTrue (is_event_before day event) → unplaced event ≡ unplaced same → currency_of terms runs event ≡ currency_of terms others same
 
--- the second fact: so it is for each of the contract's events, since a step reads observations of its event's day alone, and of children only rows
--- dated not after it
+-- the second fact: so it is for each of the contract's events
 abbrev pub StepsStay : Type 0
 StepsStay = (day : ℤ) (codes contracts : List ℕ) (terms : Terms) (plan : EventPlan) (one other : List Obs) (runs others : List Stream) →
     IsOverAgreeing day codes contracts terms plan one other runs others →
@@ -167,6 +167,36 @@ StepsStay = (day : ℤ) (codes contracts : List ℕ) (terms : Terms) (plan : Eve
 -- and a step stops on the day of its event
 abbrev pub StopsStay : Type 0
 StopsStay = (terms : Terms) (plan : EventPlan) (entries : List Obs) (runs : List Stream) → StopsOnTheDay (step_of terms plan entries runs)
+
+-- ---- what a step reads
+
+-- two books have the same values of these codes on a day
+abbrev pub HaveSameValues : ℤ → List ℕ → List Obs → List Obs → Type 0
+HaveSameValues day codes one other = (code : ℕ) → is_in codes code ≡ true → observation one code day ≡ observation other code day
+
+-- the step of an event is the same over two books that have the same values, on the event's day, of the codes that the contract reads
+abbrev pub StepReadsItsDay : Terms → EventPlan → Event → Type 0
+StepReadsItsDay terms plan event = (one other : List Obs) (runs : List Stream) →
+    HaveSameValues event.day (codes_of terms) one other →
+    (s : State) → step_of terms plan one runs s event ≡ step_of terms plan other runs s event
+
+-- the third fact: so it is for each event that the contract has, over any book and any runs of children
+abbrev pub StepsReadTheirDay : Type 0
+StepsReadTheirDay = (terms : Terms) (plan : EventPlan) (entries : List Obs) (children : List Stream) →
+    plan_of terms ≡ Ok plan →
+    AllByRecursion (StepReadsItsDay terms plan) (events_of terms plan entries children)
+
+-- the step of an event is the same over children's runs that agree before a later day
+abbrev pub StepReadsRowsUntilItsDay : Terms → EventPlan → List Obs → List Stream → Event → Type 0
+StepReadsRowsUntilItsDay terms plan entries runs event = (day : ℤ) (others : List Stream) →
+    IsTrue (is_event_before day event) → ChildrenAgree day runs others →
+    (s : State) → step_of terms plan entries runs s event ≡ step_of terms plan entries others s event
+
+-- so it is for each of the contract's events: of children's runs its step reads only what is dated not after it, rows and stops
+abbrev pub StepsReadRowsUntilTheirDay : Type 0
+StepsReadRowsUntilTheirDay = (terms : Terms) (plan : EventPlan) (entries : List Obs) (runs : List Stream) →
+    plan_of terms ≡ Ok plan → ArePaired terms.common terms.kind runs →
+    AllByRecursion (StepReadsRowsUntilItsDay terms plan entries runs) (events_of terms plan entries runs)
 
 -- ---- portfolios
 

@@ -1,7 +1,7 @@
 //! Causality: what is dated before a change stays.
 #![tactic(auto)]
 
-ghost use Rattle.act_causality.specs.Causality.{Causality, EventsStay, KeptRowsStay, StepsStay, StopsStay, UnreadDoesNotMatter};
+ghost use Rattle.act_causality.specs.Causality.{Causality, EventsStay, KeptRowsStay, StepsReadRowsUntilTheirDay, StepsReadTheirDay, StepsStay, StopsStay, UnreadDoesNotMatter};
 ghost use Rattle.act_causality.specs.Example.{FourContractsAreLinked};
 
 /// Over books and children's runs that agree before a day, a contract has the same events dated before it, but for the
@@ -10,11 +10,17 @@ pub fn events_dated_before_a_change_stay()
     ensures events { EventsStay }
 {}
 
-/// So are the steps of these events and the currencies of their payoffs: a step reads observations of its event's day
-/// alone, and of children only rows dated not after it. It stops on that day, if it does.
+/// So are the steps of these events and the currencies of their payoffs. A step stops on the day of its event, if it does.
 pub fn steps_dated_before_a_change_stay()
     ensures steps { StepsStay }
     ensures stops { StopsStay }
+{}
+
+/// The step of an event reads, of the codes of its contract, what they are observed to be on the event's day, and nothing
+/// else of the book; and of children's runs only what is dated not after that day, rows and stops.
+pub fn steps_read_the_day_of_their_event()
+    ensures codes { StepsReadTheirDay }
+    ensures rows { StepsReadRowsUntilTheirDay }
 {}
 
 /// Two books that have, as to a contract's cone, the same entries dated before a day give it the same rows dated before

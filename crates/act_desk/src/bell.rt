@@ -7,7 +7,9 @@ use std::sync::atomic::{AtomicU64, Ordering};
 /// thread counts as a sleeper before it looks at the rings a last time, and who rings counts the ring before looking for sleepers.
 #[derive(Drop)]
 pub(crate) struct Bell {
+    /// How often it has rung, modulo 2^64.
     rings: AtomicU64,
+    /// How many threads sleep, or are about to or have just woken.
     sleepers: AtomicU64,
 }
 
@@ -20,7 +22,7 @@ impl Bell {
         }
     }
 
-    /// How often it has rung.
+    /// How often it has rung, modulo 2^64.
     pub(crate) fn rings(&self) -> u64 {
         self.rings.load(Ordering::SeqCst)
     }
@@ -46,10 +48,15 @@ impl Bell {
         }
     }
 
-    /// Sleeps until it rings, unless it has rung more often than that; a sleep may also end for no reason.
+    /// Sleeps until it rings, unless it has rung since `rings` were counted; a sleep may also end for no reason. The system
+    /// compares the low 32 bits of the count alone, so all 64 are compared first: a count that has gone on by 2^32 since isn't
+    /// taken for the same. Only where it goes on by such a multiple between this look and the system's does the thread
+    /// miss these rings, and it then sleeps until the next one.
     pub(crate) fn sleep<R: Wait>(&self, rt: &R, rings: u64) {
         self.sleepers.fetch_add(1, Ordering::SeqCst);
-        self.rings.park(rt, (rings & 0xffff_ffff) as u32);
+        if self.rings() == rings {
+            self.rings.park(rt, (rings & 0xffff_ffff) as u32);
+        }
         self.sleepers.fetch_sub(1, Ordering::SeqCst);
     }
 

@@ -38,6 +38,26 @@ reads-faults (Fetch name limit next) before after result regular (inr (inr (inl 
 reads-faults (Fetch name limit next) before after result regular (inr (inr (inr (bytes, within, is, read)))) =
     reads-faults (next bytes) (asked_for name before) after result (regular bytes) read
 
+-- where a read failed, it was the last call
+abbrev pub FailsLast : {A : Type 0} → Result A Halt → World → Type 0
+FailsLast (Err (Refused (Unread name))) world = world.failed_at ≡ world.calls
+FailsLast others world = Unit {0}
+
+refuse-last : (A : Type 0) (refusal : Refusal) (world : World) → IsRegularReading {A = A} (Refuse refusal) → FailsLast {A = A} (Err (Refused refusal)) world
+refuse-last A (Unread name) world regular = absurd regular
+refuse-last A refusal world regular = tt
+
+pub reads-last : {A : Type 0} (reading : Reading A) (before after : World) (result : Result A Halt) → IsRegularReading reading → Reads reading before result after → FailsLast result after
+reads-last (Done value) before after result regular (inl is, same) = rw is tt
+reads-last (Done value) before after result regular (inr is, same) = rw is tt
+reads-last {A} (Refuse refusal) before after result regular (inl is, same) = rw is (refuse-last A refusal after regular)
+reads-last (Refuse refusal) before after result regular (inr is, same) = rw is tt
+reads-last (Fetch name limit next) before after result regular (inl (is, same)) = rw is tt
+reads-last (Fetch name limit next) before after result regular (inr (inl (is, same))) = rw (is, same) refl
+reads-last (Fetch name limit next) before after result regular (inr (inr (inl (is, same, long)))) = rw is tt
+reads-last (Fetch name limit next) before after result regular (inr (inr (inr (bytes, within, is, read)))) =
+    reads-last (next bytes) (asked_for name before) after result (regular bytes) read
+
 -- ---- how a command ends
 
 module _ (before : Outside) (status : Status) (after : Outside) where
@@ -46,9 +66,10 @@ module _ (before : Outside) (status : Status) (after : Outside) where
   tells-text (inr (inl is)) read put = rw is (read, put)
   tells-text (inr (inr is)) read put = rw is (read, put)
 
-  tells-refused : (A : Type 0) (refusal : Refusal) → status ≡ refusal_status refusal → after.world.faults ≡ faults_by {A = A} (Err (Refused refusal)) before.world.faults → after.page.faults ≡ before.page.faults → TellsFaults before status after
-  tells-refused A (Unread name) is read put = rw is (read, put)
-  tells-refused A refusal is read put = rw is (read, put)
+  tells-refused : (A : Type 0) (refusal : Refusal) → status ≡ refusal_status refusal → after.world.faults ≡ faults_by {A = A} (Err (Refused refusal)) before.world.faults → FailsLast {A = A} (Err (Refused refusal)) after.world
+      → after.page.faults ≡ before.page.faults → TellsFaults before status after
+  tells-refused A (Unread name) is read last put = rw is (read, last, put)
+  tells-refused A refusal is read last put = rw is (read, put)
 
   -- a text of which a part was written
   tells-stopped : (text : List ℕ) → StopsWithin text before.page status after.page → TellsFaults before status after
@@ -60,22 +81,24 @@ module _ (before : Outside) (status : Status) (after : Outside) where
   fails-stopped text (inr (is, part)) = inr (inr is)
 
 module _ {A B : Type 0} (meaning : Meaning A B) (usage : List ℕ) (before : Outside) (status : Status) (handed : Option B) (after : Outside) where
-  tells-by : (read : Result A Halt) → IsRegular meaning → after.world.faults ≡ faults_by read before.world.faults → EndsBy meaning usage read before status handed after → TellsFaults before status after
-  tells-by (Ok value) regular read (outcome, hands, is, inl whole) =
+  tells-by : (read : Result A Halt) → IsRegular meaning → after.world.faults ≡ faults_by read before.world.faults → FailsLast read after.world → EndsBy meaning usage read before status handed after
+      → TellsFaults before status after
+  tells-by (Ok value) regular read last (outcome, hands, is, inl whole) =
       tells-text before status after (subst IsOfText (sym whole.status_is) (regular.statuses value outcome hands is)) read (ap (λ (p : Page). p.faults) whole.put)
-  tells-by (Ok value) regular read (outcome, hands, is, inr (none, part)) = tells-stopped before status after outcome.text part
-  tells-by (Err (Refused refusal)) regular read ended =
+  tells-by (Ok value) regular read last (outcome, hands, is, inr (none, part)) = tells-stopped before status after outcome.text part
+  tells-by (Err (Refused refusal)) regular read last ended =
       elim ended.wrote [
-        | inl (is, put) ↦ tells-refused before status after A refusal is read (ap (λ (p : Page). p.faults) put)
+        | inl (is, put) ↦ tells-refused before status after A refusal is read last (ap (λ (p : Page). p.faults) put)
         | inr part ↦ tells-stopped before status after (refusal_line usage refusal) part
       ]
-  tells-by (Err (Stopped Sink)) regular read ended = absurd ended
-  tells-by (Err (Stopped Memory)) regular read (is, none, same) = rw is (ap (λ (p : Page). p.faults) same)
+  tells-by (Err (Stopped Sink)) regular read last ended = absurd ended
+  tells-by (Err (Stopped Memory)) regular read last (is, none, same) = rw is (ap (λ (p : Page). p.faults) same)
 
   -- the status tells of faults
   pub tells-faults : IsRegular meaning → Ends meaning usage before status handed after → TellsFaults before status after
   tells-faults regular ended =
-      tells-by ended.read regular (reads-faults meaning.reading before.world after.world ended.read regular.reading ended.reads) ended.ends
+      tells-by ended.read regular (reads-faults meaning.reading before.world after.world ended.read regular.reading ended.reads)
+      (reads-last meaning.reading before.world after.world ended.read regular.reading ended.reads) ended.ends
 
   -- what was read is what is wanted
   value-told : (value : A) → EndsBy meaning usage (Ok value) before status handed after → IsWritten meaning usage (Ok value) before status handed after ⊎ Fails before status after

@@ -50,8 +50,8 @@ abbrev pub RanOut : {A : Type 0} → Result A Halt → Type 0
 RanOut result = result ≡ Err (Stopped Memory)
 
 -- What reading came to, by what contracts see of the files before and after. What is to be read is there, or refused. Each file was asked for; where
--- reading failed, or a file is too long, it is the last one, and the refusal names it; where the bytes are told, they are those that were read. Memory
--- may have run out anywhere.
+-- reading failed, or a file is too long, it is the last one, and the refusal names it, and a failure is counted at its call; where the bytes are told,
+-- they are those that were read. Memory may have run out anywhere.
 abbrev pub Reads : {A : Type 0} → Reading A → World → Result A Halt → World → Type 0
 Reads (Done value) before result after = ((result ≡ Ok value) ⊎ RanOut result) × (after ≡ before)
 Reads (Refuse refusal) before result after = ((result ≡ Err (Refused refusal)) ⊎ RanOut result) × (after ≡ before)

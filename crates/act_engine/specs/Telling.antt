@@ -28,10 +28,11 @@ pub record IsRegular {A B : Type 0} (meaning : Meaning A B) : Type 0 where
 
 -- ---- what they tell
 
--- What failed, by the status: with ReadFault a read, with WriteFault a write, and with others nothing. With WriteFault and NoMemory a read may have failed
--- before, whose line was cut short.
+-- What failed, by the status: with ReadFault a read, which was the files' last call, with WriteFault a write, and with others nothing. With WriteFault and
+-- NoMemory a read may have failed before, whose line was cut short.
 abbrev pub TellsFaults : Outside → Status → Outside → Type 0
-TellsFaults before ReadFault after = (after.world.faults ≡ next_count before.world.faults) × (after.page.faults ≡ before.page.faults)
+TellsFaults before ReadFault after =
+    (after.world.faults ≡ next_count before.world.faults) × (after.world.failed_at ≡ after.world.calls) × (after.page.faults ≡ before.page.faults)
 TellsFaults before WriteFault after = after.page.faults ≡ next_count before.page.faults
 TellsFaults before NoMemory after = after.page.faults ≡ before.page.faults
 TellsFaults before others after = (after.world.faults ≡ before.world.faults) × (after.page.faults ≡ before.page.faults)

@@ -15,6 +15,6 @@ pub use fetching::fetch;
 pub use halt::Halt;
 pub use line::{line_of, write_line, write_number};
 pub use refusal::{Refusal, ScriptRule};
-pub use status::Status;
+pub use status::{Status, exit_of};
 pub use words::words_behind_the_name;
 pub use writing::{Failure, write_text};

@@ -1,7 +1,10 @@
 //! How a command ended.
 ghost use Rattle.std.specs.Prelude.{◌≡◌, if◌then◌else◌};
+ghost use Rattle.std.specs.Process.{exit_status};
 ghost use Rattle.act_engine.specs.declared.status.Status.TheVariants.{WriteFault};
 ghost use Rattle.act_engine.specs.Status.{status_number};
+
+use std::process::ExitCode;
 
 /// How a command ended.
 #[derive(Clone, Copy)]
@@ -48,9 +51,16 @@ impl Status {
     }
 
     /// The status of a program whose command ended so, by whether what its sink had gathered was written at last.
-    pub fn if_written(self, written: bool) -> Status
+    fn if_written(self, written: bool) -> Status
         ensures { result ≡ (if written then self else WriteFault) }
     {
         if written { self } else { Status::WriteFault }
     }
+}
+
+/// How a program ends whose command ended so, by whether what its sink had gathered was written at last.
+pub fn exit_of(status: Status, written: bool) -> ExitCode
+    ensures { exit_status result ≡ status_number (if written then status else WriteFault) }
+{
+    ExitCode::from(status.if_written(written).number())
 }

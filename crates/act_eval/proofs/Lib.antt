@@ -1,3 +1,4 @@
+pub mod Answered
 pub mod Answering
 pub mod Asks
 pub mod Blocks

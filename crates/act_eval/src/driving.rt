@@ -1,5 +1,5 @@
 //! A board that one caller has to itself, driven by one thread: the caller's steps, and the evaluations that it asks for.
-ghost use Rattle.std.specs.Prelude.{◌≡◌, ◌+◌, ◌<◌, ◌≤◌, ℕ, List, [], ◌∷◌, false, length, take, true, IfOk, OnOk};
+ghost use Rattle.std.specs.Prelude.{◌≡◌, ◌+◌, ◌<◌, ◌≤◌, ℕ, List, [], ◌∷◌, false, length, take, true, IfErr, IfOk, OnOk};
 ghost use Rattle.std.specs.Arc.{arc_value};
 ghost use Rattle.std.specs.List.{All};
 ghost use Rattle.act_engine.specs.Writing.{Writes};
@@ -41,20 +41,20 @@ const CALLER: u32 = 1;
 
 /// One thread, which makes the steps of the one caller of a board, and the evaluations that it asks for.
 #[derive(Drop)]
-pub struct Driver<'a> {
+pub(crate) struct Driver<'a> {
     /// The portfolio.
-    pub portfolio: &'a Portfolio,
+    pub(crate) portfolio: &'a Portfolio,
     /// The board.
-    pub board: Board,
+    pub(crate) board: Board,
     /// The blocks of contracts, as they were put together last.
-    pub blocks: Blocks<'a>,
+    pub(crate) blocks: Blocks<'a>,
     /// How many rows were computed. Where they are too many to be counted memory has run out.
-    pub work: u64,
+    pub(crate) work: u64,
 }
 
 impl<'a> Driver<'a> {
     /// A thread with a fresh board for the script of an evaluation, and with blocks.
-    pub fn new(
+    pub(crate) fn new(
         alloc: Global,
         evaluation: &Evaluation<'a>,
         blocks: Blocks<'a>,
@@ -79,13 +79,14 @@ impl<'a> Driver<'a> {
         }
     }
 
-    /// The caller appends an entry.
-    pub fn append(&mut self, entry: Obs) -> Result<(), NoMemory>
+    /// The caller appends an entry. Where memory runs out, the board is as before.
+    pub(crate) fn append(&mut self, entry: Obs) -> Result<(), NoMemory>
         requires present { IsPresent self.old.board CALLER }
         requires going { is_given_up self.old.board ≡ false }
         requires quota { HasQuota self.old.board CALLER }
         requires entry { is_entry entry ≡ true }
         ensures board { IfOk result (λ _. self.new.board ≡ and_then self.old.board (mark.Append CALLER entry)) }
+        ensures unchanged { IfErr result (λ _. self.new.board ≡ self.old.board) }
         ensures portfolio { self.new.portfolio ≡ self.old.portfolio }
         ensures blocks { self.new.blocks ≡ self.old.blocks }
         ensures work { self.new.work ≡ self.old.work }
@@ -100,7 +101,7 @@ impl<'a> Driver<'a> {
 
     /// The caller, all of whose asks are answered, asks; what it asks for is evaluated, with the blocks put together, and the answer
     /// is given.
-    pub fn answer<L: Ledger>(
+    pub(crate) fn answer<L: Ledger>(
         &mut self,
         alloc: Global,
         asked: Asked,

@@ -1,13 +1,19 @@
 -- What the standard output gathers before it is written.
-use Rattle.std.specs.Prelude.{◌≡◌, ◌⊎◌, ℕ, List, [], ◌++◌, take, Result, Ok, Err}
+use Rattle.std.specs.Prelude.{◌≡◌, ◌⊎◌, ℕ, ◌+◌, List, [], ◌++◌, length, take, Result, Ok, Err}
 use Rattle.act_io.specs.Faults.{next_count}
 use Rattle.act_io.specs.declared.sink.PutFault.{PutFault}
 use Rattle.act_io.specs.declared.sink.PutFault.TheVariants.{Failed, NoMemory}
 
--- bytes that are taken and not yet written, and the faults so far
+-- bytes that are taken and not yet written, how many were handed to the system by writes that didn't fail, as the sink counts them, and the faults so far
 pub record Gathering : Type 0 where
   pub gathered : List ℕ
+  pub handed : ℕ
   pub faults : ℕ
+
+-- so many bytes more were taken: each is gathered, or counted as handed to the system
+abbrev pub Accounts : Gathering → Result ℕ PutFault → Gathering → Type 0
+Accounts before (Ok n) after = after.handed + length after.gathered ≡ before.handed + length before.gathered + n
+Accounts before (Err fault) after = Unit {0}
 
 -- the first n bytes of a piece are gathered behind the others, or behind none where the others were written before; or none is left, since
 -- all was written, those bytes too, or a write failed

@@ -10,12 +10,14 @@ use Rattle.act_io.specs.Faults.{next_count}
 use Rattle.act_io.specs.Page.{Page}
 use Rattle.act_io.specs.World.{World}
 
--- a list of names with bytes, the numbers of the calls that are to fail, the calls and faults so far, and the names asked for
+-- a list of names with bytes, the numbers of the calls that are to fail, the calls and faults so far, the call of the last fault, 0 for none, and the
+-- names asked for
 pub record FilesInMemory : Type 0 where
   pub files : List (List ℕ × List ℕ)
   pub fails : List ℕ
   pub calls : ℕ
   pub faults : ℕ
+  pub failed_at : ℕ
   pub asked : List (List ℕ)
 
 -- what was written, the numbers of the calls that are to fail, the calls and faults so far, and how many bytes a call takes at most
@@ -32,7 +34,8 @@ content_of files name = option_map (λ file. file.1) (find (λ file. bytes_eq fi
 
 -- what contracts see of the files, which tell all
 abbrev pub world_of : FilesInMemory → World
-world_of files = record { content = content_of files.files; asked = Some files.asked; faults = files.faults }
+world_of files =
+    record { content = content_of files.files; asked = Some files.asked; calls = files.calls; faults = files.faults; failed_at = files.failed_at }
 
 -- what they see of the sink, which tells all
 abbrev pub page_of : SinkInMemory → Page
@@ -59,18 +62,16 @@ Answers (Err Failed) wanted = wanted ≡ Err Failed
 Answers (Err TooLong) wanted = wanted ≡ Err TooLong
 Answers (Ok read) wanted = wanted ≡ Ok read.items
 
--- the count of faults, one higher where reading failed
-abbrev pub fetch_faults : Result (Vec ℕ Global) FetchFault → ℕ → ℕ
-fetch_faults (Err Failed) before = next_count before
-fetch_faults (Err TooLong) before = before
-fetch_faults (Err NoMemory) before = before
-fetch_faults (Ok read) before = before
+-- the files with one more call, and one more name asked for
+abbrev pub files_called : FilesInMemory → List ℕ → FilesInMemory
+files_called files name = record files { calls = next_count files.calls; asked = files.asked ++ name ∷ [] }
 
--- the files with one more call, one more name asked for, and one more fault where the answer is Failed; as they were where memory ran out
+-- the same with one more fault, at this call, where the answer is Failed; the files as they were where memory ran out
 abbrev pub files_after : Result (Vec ℕ Global) FetchFault → FilesInMemory → List ℕ → FilesInMemory
 files_after (Err NoMemory) files name = files
-files_after answer files name =
-    record files { calls = next_count files.calls; faults = fetch_faults answer files.faults; asked = files.asked ++ name ∷ [] }
+files_after (Err Failed) files name =
+    record (files_called files name) { faults = next_count files.faults; failed_at = next_count files.calls }
+files_after answer files name = files_called files name
 
 -- the answer of the next call: 0 at an empty piece, a fault where the call is to fail, and else the piece's length, or the most that is
 -- taken

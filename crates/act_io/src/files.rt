@@ -16,8 +16,9 @@ pub enum FetchFault {
 
 /// Files by name.
 pub trait Files {
-    /// The bytes under a name and the names that were asked for, in order, where the files tell them; and how often reading has
-    /// failed, as far as a counter goes: once more exactly where `Failed` is answered.
+    /// The bytes under a name and the names that were asked for, in order, where the files tell them; how often a name was asked
+    /// for and how often reading has failed, as far as counters go: once more exactly where `Failed` is answered; and at which of
+    /// these calls it failed last.
     ghost world: { Self → World };
 
     /// The bytes of the file of that name, of which there may be as many as the limit. No file changes. The

@@ -15,6 +15,7 @@ pub struct MemFiles {
     fails: Vec<u64>,
     calls: u64,
     faults: u64,
+    failed_at: u64,
     asked: Vec<String>,
 }
 
@@ -24,7 +25,7 @@ impl Model for MemFiles {
 
     ghost Value = { FilesInMemory };
 
-    ghost view = { λ m. record { files = map (λ f. (string_bytes f.0, f.1.items)) m.files.items; fails = m.fails.items; calls = m.calls; faults = m.faults; asked = map string_bytes m.asked.items } };
+    ghost view = { λ m. record { files = map (λ f. (string_bytes f.0, f.1.items)) m.files.items; fails = m.fails.items; calls = m.calls; faults = m.faults; failed_at = m.failed_at; asked = map string_bytes m.asked.items } };
 }
 
 impl MemFiles {
@@ -34,6 +35,7 @@ impl MemFiles {
         ensures fails { result.fails ≡ fails.items }
         ensures calls { result.calls ≡ 0 }
         ensures faults { result.faults ≡ 0 }
+        ensures failed_at { result.failed_at ≡ 0 }
         ensures asked { result.asked ≡ [] }
     {
         MemFiles {
@@ -41,6 +43,7 @@ impl MemFiles {
             fails,
             calls: 0,
             faults: 0,
+            failed_at: 0,
             asked: Vec::new(alloc),
         }
     }
@@ -94,6 +97,7 @@ impl Files for MemFiles {
         self.calls = self.calls.saturating_add(1);
         if let Err(FetchFault::Failed) = answer {
             self.faults = self.faults.saturating_add(1);
+            self.failed_at = self.calls;
         }
         answer
     }

@@ -28,12 +28,14 @@ more-known old new added (Ask (One contract)) known = rw added.contracts known
 
 -- before the first script
 pub none-are : (portfolio : Accepted) → AreScriptsOf portfolio (no_scripts portfolio)
-none-are portfolio = record { contracts = refl; known = All-nil (All (λ (line : Line). is_known portfolio.names line.step ≡ true)); entries = All-nil (All (λ (line : Line). appends_entry line.step ≡ true)); counted = refl; few = omega arith }
+none-are portfolio = record { contracts = refl; currencies = refl; codes = omega arith; known = All-nil (All (λ (line : Line). is_known portfolio.names line.step ≡ true)); entries = All-nil (All (λ (line : Line). appends_entry line.step ≡ true)); counted = refl; few = omega arith }
 
 -- with one that was read behind them
 pub more-are : (portfolio : Accepted) (scripts : Scripts) (script : Script) → AreScriptsOf portfolio scripts → IsReadBehind scripts.names scripts.entries script → AreScriptsOf portfolio (with_script scripts script)
 more-are portfolio scripts script are read = record {
   contracts = read.added.contracts ∙ are.contracts;
+  currencies = read.added.currencies ∙ are.currencies;
+  codes = omega (arith, are.codes, ap length read.added.codes.1, length-append scripts.names.codes read.added.codes.0);
   known = All-push (All (λ (line : Line). is_known script.names line.step ≡ true)) scripts.lists script.lines (λ k d within. λ j e below. more-known scripts.names script.names read.added _ (are.known k d within j e below)) read.known;
   entries = All-push (All (λ (line : Line). appends_entry line.step ≡ true)) scripts.lists script.lines are.entries read.entries;
   counted = read.counted ∙ (ap (λ (n : ℕ). n + count_by (λ (line : Line). is_append line.step) script.lines) are.counted
@@ -47,6 +49,8 @@ ask-are portfolio =
     let ask : Line = record { step = Ask EachOne; line = 1 } in
     record {
       contracts = refl;
+      currencies = refl;
+      codes = omega arith;
       known = all-one (All (λ (line : Line). is_known portfolio.names line.step ≡ true)) (ask ∷ []) (all-one (λ (line : Line). is_known portfolio.names line.step ≡ true) ask refl);
       entries = all-one (All (λ (line : Line). appends_entry line.step ≡ true)) (ask ∷ []) (all-one (λ (line : Line). appends_entry line.step ≡ true) ask refl);
       counted = refl;

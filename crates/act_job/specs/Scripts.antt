@@ -1,5 +1,5 @@
 -- The scripts of several callers. This profile's own.
-use Rattle.std.specs.Prelude.{◌≡◌, ℕ, ◌+◌, ◌≤◌, true, List, [], ◌∷◌, ◌++◌}
+use Rattle.std.specs.Prelude.{◌≡◌, ℕ, ◌+◌, ◌≤◌, true, List, [], ◌∷◌, ◌++◌, length}
 use Rattle.std.specs.List.{All, count_by, sum_by}
 use Rattle.act_model.specs.Journal.{appends_entry, is_append, is_known}
 use Rattle.act_model.specs.Limits.{most_entries}
@@ -41,10 +41,12 @@ pub record IsReadBehind (names : NameLists) (before : ℕ) (script : Script) : T
   pub counted : script.entries ≡ before + count_by (λ (line : Line). is_append line.step) script.lines
   pub few : script.entries ≤ most_entries
 
--- what is true of the scripts of a portfolio: the contracts are the portfolio's, what a step names is named, what it appends is an entry of a
--- book, and a book holds all entries
+-- what is true of the scripts of a portfolio: the contracts and the currencies are the portfolio's, with its codes and maybe more; what a step
+-- names is named, what it appends is an entry of a book, and a book holds all entries
 pub record AreScriptsOf (portfolio : Accepted) (scripts : Scripts) : Type 0 where
   pub contracts : scripts.names.contracts ≡ portfolio.names.contracts
+  pub currencies : scripts.names.currencies ≡ portfolio.names.currencies
+  pub codes : length portfolio.names.codes ≤ length scripts.names.codes
   pub known : All (All (λ (line : Line). is_known scripts.names line.step ≡ true)) scripts.lists
   pub entries : All (All (λ (line : Line). appends_entry line.step ≡ true)) scripts.lists
   pub counted : scripts.entries ≡ append_count scripts.lists

@@ -80,17 +80,21 @@ impl Job {
         ensures scripts { IfOk result (λ job. job.scripts ≡ scripts) }
     {
         match first_overweight(alloc, &portfolio, &scripts.lists) {
-            Ok(None) => match Arc::new(alloc, portfolio) {
-                Ok(portfolio) => Ok(Job {
-                    portfolio,
-                    scripts,
-                    workers,
-                }),
-                Err(_) => {
-                    drop(scripts);
-                    Err(Halt::Stopped(Failure::Memory))
+            Ok(None) => {
+                portfolio.contracts_are_printable();
+                scripts.are_readable();
+                match Arc::new(alloc, portfolio) {
+                    Ok(portfolio) => Ok(Job {
+                        portfolio,
+                        scripts,
+                        workers,
+                    }),
+                    Err(_) => {
+                        drop(scripts);
+                        Err(Halt::Stopped(Failure::Memory))
+                    }
                 }
-            },
+            }
             Ok(Some((script, line))) => {
                 drop(portfolio);
                 drop(scripts);

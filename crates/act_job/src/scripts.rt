@@ -1,6 +1,10 @@
 //! Reading the scripts of several callers.
 ghost use Rattle.std.specs.Prelude.{◌≡◌, ◌+◌, ◌≤◌, ◌<◌, ◌∷◌, ◌++◌, [], length, map, string_bytes, IfOk};
+ghost use Rattle.std.specs.List.{All};
+ghost use Rattle.act_model.specs.Bounds.{StepIsBounded};
 ghost use Rattle.act_model.specs.Limits.{most_callers};
+ghost use Rattle.act_model.specs.Names.{AreNames};
+ghost use Rattle.act_model.specs.declared.journal.Line.{Line};
 ghost use Rattle.act_engine.specs.Reading.{Reads, read_of};
 ghost use Rattle.act_io.specs.World.{World};
 ghost use Rattle.act_script.specs.Asks.{line_lists};
@@ -100,6 +104,17 @@ impl Scripts {
         scripts.with_bytes(alloc, portfolio, bytes)
     }
 
+    /// Their names are names, and what they append has a day and a number. It does nothing, and stands where a proof needs this.
+    pub(crate) fn are_readable(&self)
+        ensures contracts { AreNames self.now.names.contracts }
+        ensures codes { AreNames self.now.names.codes }
+        ensures currencies { AreNames self.now.names.currencies }
+        ensures bounded { All (All (λ (line : Line). StepIsBounded line.step)) self.now.lists }
+    {
+        self.names.are_named();
+        all_are_bounded(&self.lists);
+    }
+
     /// These scripts and the one of the file of that name, read behind them.
     fn with_file<'a, F: Files>(
         self,
@@ -145,6 +160,33 @@ impl Scripts {
         let number = lists.len() as u32 + 1;
         let script = accept_script(alloc, portfolio, number, names, entries, bytes)?;
         Ok(with_script(lists, script)?)
+    }
+}
+
+/// What the lines of each list append has a day and a number. It does nothing, as those below, and stands where a proof needs this.
+fn all_are_bounded(lists: &[Vec<Line>])
+    ensures { All (All (λ (line : Line). StepIsBounded line.step)) (line_lists lists.now) }
+{
+    for lines in lists {
+        are_bounded(lines);
+    }
+}
+
+/// What lines append has a day and a number.
+fn are_bounded(lines: &[Line])
+    ensures { All (λ (line : Line). StepIsBounded line.step) lines.now }
+{
+    for line in lines {
+        is_bounded(&line.step);
+    }
+}
+
+/// What a step appends has a day and a number.
+fn is_bounded(step: &Step)
+    ensures { StepIsBounded step.now }
+{
+    if let Step::Append(entry) = step {
+        entry.is_bounded();
     }
 }
 

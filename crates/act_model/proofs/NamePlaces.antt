@@ -1,5 +1,5 @@
 -- The places of names, in their texts and once one more is there.
-use Rattle.std.proofs.Common.{◌≡◌, ℕ, ◌+◌, ◌<◌, ◌≤◌, Bool, true, false, not, cond, List, [], ◌∷◌, ◌++◌, length, get_or, map, Option, Some, None, inl, inr, refl, sym, ap, ◌∙◌, arith}
+use Rattle.std.proofs.Common.{◌≡◌, ℕ, ◌+◌, ◌<◌, ◌≤◌, Bool, true, false, not, cond, if◌then◌else◌, List, [], ◌∷◌, ◌++◌, length, get_or, map, Option, Some, None, is_some, unwrap_or, inl, inr, refl, sym, ap, ◌∙◌, arith}
 use Rattle.std.proofs.Math.Seq.{get_or-append_seam}
 use Rattle.std.proofs.lemmas.Bool.{cases_lt, lt-ltb}
 use Rattle.std.proofs.lemmas.Bool.Decides.{nat_tests}
@@ -13,7 +13,7 @@ use Rattle.std.specs.Map.{lookup}
 use Rattle.std.specs.Str.{bytes_eq}
 use Rattle.act_model.specs.Limits.{most_names}
 use Rattle.act_model.specs.Name.{is_name}
-use Rattle.act_model.specs.Names.{AreNames, place_of}
+use Rattle.act_model.specs.Names.{AreNames, number_of, place_of, with_name}
 
 -- ---- the first place that passes a test
 
@@ -131,3 +131,25 @@ module _ (names : List (List ℕ)) (name : List ℕ) (absent : place_of name nam
     numbered = by_place (λ place other. place_of other (names ++ name ∷ []) ≡ Some place) (λ place other at. earlier place other (before.numbered place other at)) latest;
     few = omega (arith, length-append names (name ∷ []));
   }
+
+-- ---- places and numbers
+
+module _ (name : List ℕ) (names : List (List ℕ)) where
+  pub place_below : (place : ℕ) → place_of name names ≡ Some place → place < length names
+  place_below place e = (position-Some (bytes_eq name) names place name e).0
+
+  number_by : (found : Option ℕ) → place_of name names ≡ found → unwrap_or found (length names) < length (if is_some found then names else names ++ name ∷ [])
+  number_by None e = omega (arith, length-append names (name ∷ []))
+  number_by (Some place) e = place_below place e
+
+  -- the number of a name is one of those with it
+  pub number_below : number_of name names < length (with_name name names)
+  number_below = number_by (place_of name names) refl
+
+  fewer_by : (known : Bool) → length names ≤ length (if known then names else names ++ name ∷ [])
+  fewer_by true = omega arith
+  fewer_by false = omega (arith, length-append names (name ∷ []))
+
+  -- and there are no fewer
+  pub no_fewer : length names ≤ length (with_name name names)
+  no_fewer = fewer_by (is_some (place_of name names))

@@ -1,5 +1,6 @@
 pub mod Answer
 pub mod Asks
+pub mod Bounds
 pub mod Chunk
 pub mod Journal
 pub mod Kind

@@ -2,6 +2,7 @@
 #![tactic(auto)]
 
 mod asks;
+mod bounds;
 mod choice;
 mod chunk;
 mod event;

@@ -2,7 +2,7 @@
 ghost use Rattle.std.specs.Prelude.{◌≡◌, ◌≤◌, ◌++◌, [], ◌∷◌, true, false, None, Some, length, slice_get, option_map, IfOk, IfErr, IfSome, codes};
 ghost use Rattle.std.specs.Str.{bytes_eq};
 ghost use Rattle.act_model.specs.Name.{is_name};
-ghost use Rattle.act_model.specs.Names.{AreFew, no_names, number_of, place_of, with_name};
+ghost use Rattle.act_model.specs.Names.{AreFew, AreNames, no_names, number_of, place_of, with_name};
 
 use crate::limits::MOST_NAMES;
 use act_num::NoMemory;
@@ -169,6 +169,19 @@ impl Names {
         self.currencies.intern(currency)
     }
 
+    /// The names of each sort are names, and each has the number of its place. It does nothing, and stands where a proof needs
+    /// this.
+    #[inline(always)]
+    pub fn are_named(&self)
+        ensures contracts { AreNames self.now.contracts }
+        ensures codes { AreNames self.now.codes }
+        ensures currencies { AreNames self.now.currencies }
+    {
+        self.contracts.are_named();
+        self.codes.are_named();
+        self.currencies.are_named();
+    }
+
     /// A copy of the names.
     pub fn copied(&self) -> Result<Names, NoMemory>
         ensures names { IfOk result (λ names. names ≡ self.now) }
@@ -246,6 +259,15 @@ impl NameList {
         }
     }
 
+    /// They are names, and each has the number of its place.
+    fn are_named(&self)
+        ensures { AreNames self.now }
+    {
+        if let Some(held) = &self.held {
+            held.are_named();
+        }
+    }
+
     /// A copy of the names, which shares them.
     fn copied(&self) -> Result<NameList, NoMemory>
         ensures names { IfOk result (λ names. names ≡ self.now) }
@@ -288,6 +310,13 @@ impl Held {
         ensures { result ≡ place_of name.now self.now }
     {
         self.numbers.get(name).copied()
+    }
+
+    /// They are names, and each has the number of its place.
+    fn are_named(&self)
+        ensures { AreNames self.now }
+    {
+        let _ = &self.texts;
     }
 
     /// Adds a name, which isn't there yet, behind the others, and gives its number. NoMemory also where there are as

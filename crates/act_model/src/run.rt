@@ -1,7 +1,10 @@
 //! Plans and runs.
 ghost use Rattle.std.specs.Prelude.{◌≡◌, IfOk};
-ghost use Rattle.std.specs.List.{filter};
+ghost use Rattle.std.specs.List.{All, filter};
+ghost use Rattle.act_date.specs.Civil.{IsDay};
+ghost use Rattle.act_model.specs.Bounds.{IsDated};
 ghost use Rattle.act_model.specs.Run.{may_end, row_with};
+ghost use Rattle.act_model.specs.declared.event.Event.{Event};
 ghost use Rattle.act_model.specs.declared.run.PlanFault.TheVariants as faults;
 
 use crate::event::{Event, EventType};
@@ -130,14 +133,16 @@ pub struct Plan {
 
 impl Model for Plan {
     ghost use Rattle.std.specs.Prelude.{◌≡◌};
-    ghost use Rattle.std.specs.List.{filter};
+    ghost use Rattle.std.specs.List.{All, filter};
+    ghost use Rattle.act_date.specs.Civil.{IsDay};
     ghost use Rattle.act_model.specs.Run.{EventPlan, may_end};
+    ghost use Rattle.act_model.specs.declared.event.Event.{Event};
 
     ghost Value = { EventPlan };
 
     ghost view = { λ p. record { events = p.events.items; redemptions = p.redemptions.items; periods = p.periods.items } };
 
-    ghost invariant = { λ p. p.ends.items ≡ filter may_end p.events.items };
+    ghost invariant = { λ p. (p.ends.items ≡ filter may_end p.events.items) × All (λ (event : Event). IsDay event.day) p.events.items };
 }
 
 impl Plan {
@@ -150,6 +155,7 @@ impl Plan {
         ensures { IfOk result (λ plan. plan
             ≡ record { events = events.items; redemptions = redemptions.items; periods = periods.items }) }
     {
+        are_dated(&events);
         let ends = ends_of(*events.allocator(), &events)?;
         Ok(Plan {
             events,
@@ -164,6 +170,23 @@ impl Plan {
         ensures { result.now ≡ filter may_end self.now.events }
     {
         &self.ends
+    }
+
+    /// Its events stand on days. It does nothing, and stands where a proof needs this.
+    #[inline(always)]
+    pub fn is_dated(&self)
+        ensures { IsDated self.now }
+    {
+        let _ = &self.ends;
+    }
+}
+
+/// Events stand on days.
+fn are_dated(events: &[Event])
+    ensures { All (λ (event : Event). IsDay event.day) events.now }
+{
+    'events: for event in events {
+        let _ = event.day.number();
     }
 }
 

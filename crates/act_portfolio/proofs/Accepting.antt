@@ -1,9 +1,13 @@
 -- The portfolio of a list of contracts, from what its steps give.
 use Rattle.std.proofs.Common.{◌≡◌, ℕ, zero, suc, List, [], ◌∷◌, length, map, Result, Ok, Err, refl, ap, sym, ◌∙◌, arith}
+use Rattle.std.proofs.lemmas.List.Elements.{All-weaker}
+use Rattle.std.specs.List.{All}
 use Rattle.act_model.specs.Names.{NameLists, no_names}
 use Rattle.act_profile.specs.Outcomes.{map_ok, then_ok}
 use Rattle.act_refs.specs.Ordered.{order_of}
 use Rattle.act_terms.specs.Contract.{NamedTerms, contract_of}
+use Rattle.act_terms.specs.Named.{IsNamedIn}
+use Rattle.act_terms.proofs.TermsNamed.{named_more}
 use Rattle.serde_json.specs.Data.{Data}
 use Rattle.act_binding.specs.Binding.{children_with_shadows, with_shadows}
 use Rattle.act_portfolio.specs.Known.{checked, portfolio_with}
@@ -61,6 +65,14 @@ module _ (contracts : List Data) (named : List NamedTerms) (names : NameLists) (
       → names₂ ≡ record names { contracts = map (λ (c : NamedTerms). c.id) named } → unused ≡ unused_lists named contracts
       → map_ok (portfolio_with names₂ named order unused) (plans_from zero (with_shadows named)) ≡ Ok portfolio → portfolio_listed contracts ≡ Ok portfolio
   accepts names₂ order unused portfolio is found names_are unused_are made = ordered_as order is found ∙ (rw (names_are, unused_are) at made)
+
+-- ---- what is named
+
+-- what contracts name is among the names also with other names of contracts
+pub named_among : (before : NameLists) (ids : List (List ℕ)) (named : List NamedTerms) → All (IsNamedIn before) named → All (IsNamedIn (record before { contracts = ids })) named
+named_among before ids named all =
+    let names : NameLists = record before { contracts = ids } in
+    All-weaker (IsNamedIn before) (IsNamedIn names) (λ contract among. named_more before names contract (record { codes = omega arith; currencies = omega arith }) among) named all
 
 -- ---- how many there are
 

@@ -8,6 +8,7 @@ use Rattle.act_model.specs.Run.{EventPlan}
 use Rattle.act_model.specs.declared.terms.Terms.{Terms}
 use Rattle.act_refs.specs.Ordered.{order_of}
 use Rattle.act_terms.specs.Contract.{NamedTerms}
+use Rattle.act_terms.specs.Named.{IsNamedIn}
 use Rattle.act_cones.specs.Cones.{AreCones, AreRanks}
 use Rattle.act_binding.specs.Binding.{bound_terms, children_with_shadows, shadow_numbers, shadow_of}
 use Rattle.act_binding.specs.Links.{listing_of}
@@ -40,6 +41,7 @@ pub record AreChecked (objects : List Data) (contracts : CheckedContracts) : Typ
   pub fit : first_unfit contracts.named ≡ None
   pub few : count_with_shadows contracts.named ≤ most_contracts
   pub are : All IsContract contracts.named
+  pub named : All (IsNamedIn before) contracts.named
   pub left : contracts.unused ≡ unused_lists contracts.named objects
 
 -- a portfolio, or what refuses it, is that of contracts that were read from objects and checked

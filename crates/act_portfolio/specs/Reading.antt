@@ -1,7 +1,8 @@
 -- What the bytes of a portfolio file are: the contracts with their names, terms and plans, or the first refusal. ACTUS data dictionary; the
 -- refusals and their order are this profile's own.
-use Rattle.std.specs.Prelude.{◌≡◌, ℕ, zero, ◌<◌, ◌≤◌, slice_get, List, [], length, map, Some, Result, Ok, Err}
+use Rattle.std.specs.Prelude.{◌≡◌, ℕ, zero, ◌<◌, ◌≤◌, false, codes, slice_get, List, [], length, map, Some, Result, Ok, Err}
 use Rattle.std.specs.List.{All}
+use Rattle.std.specs.Str.{bytes_eq}
 pub use Rattle.act_accepted.specs.Accepted.{Accepted}
 use Rattle.act_causality.specs.Causality.{IsLinked}
 use Rattle.act_json.specs.Reading.{json_of}
@@ -11,7 +12,7 @@ use Rattle.act_model.specs.Names.{NameLists, no_names}
 use Rattle.act_model.specs.Run.{EventPlan}
 use Rattle.act_model.specs.declared.terms.Terms.{Terms}
 use Rattle.act_profile.specs.Built.{IsBuilt}
-use Rattle.act_profile.specs.Plan.{plan_of}
+use Rattle.act_profile.specs.Printable.{ArePrintable}
 use Rattle.act_profile.specs.Run.{Contracts}
 use Rattle.act_refs.specs.Ordered.{order_of}
 use Rattle.act_terms.specs.Contract.{NamedTerms}
@@ -72,15 +73,17 @@ portfolio_of bytes = portfolio_in (json_of bytes)
 
 -- ---- what is true of an accepted portfolio
 
--- what is asked of each contract's kind holds, and its plan is that of its terms; what its terms hold of other contracts is so; its children are contracts,
--- and the order is the reference order; for each contract of the file there is a name and a list of unused names; there are at most 4,096, shadows included
+-- what is asked of each contract's kind holds, and its plan is that of its terms; its days are days, its amounts numbers of the range, and what it names
+-- is among the names; what its terms hold of other contracts is so; its children are contracts, and the order is the reference order; for each contract of
+-- the file there is a name, which isn't `*`, and a list of unused names; there are at most 4,096, shadows included
 pub record IsAccepted (names : NameLists) (contracts : Contracts) (order : List ℕ) (unused : List (List (List ℕ))) : Type 0 where
   pub built : (c : ℕ) (t : Terms) → slice_get contracts.terms c ≡ Some t → IsBuilt t.kind
-  pub planned : map plan_of contracts.terms ≡ map Ok contracts.plans
+  pub printable : ArePrintable (length names.codes) (length names.currencies) contracts
   pub linked : IsLinked contracts
   pub children : length contracts.children ≡ length contracts.terms
   pub numbered : All (All (λ child. child < length contracts.terms)) contracts.children
   pub ordered : order_of contracts.children ≡ Ok order
   pub named : length names.contracts ≤ length contracts.terms
+  pub no_star : All (λ (name : List ℕ). bytes_eq name (codes "*") ≡ false) names.contracts
   pub unused_lists : length unused ≡ length names.contracts
   pub few : length contracts.terms ≤ most_contracts

@@ -1,9 +1,11 @@
 //! Contracts as a graph, bound to what they refer to.
 ghost use Rattle.std.specs.Prelude.{◌≡◌, ◌≤◌, None, Ok, Err, IfOk, IfErr, IfSome, length, map, string_bytes, zero};
 ghost use Rattle.std.specs.List.{All};
+ghost use Rattle.act_model.specs.Bounds.{AreBounded, IsDated};
 ghost use Rattle.act_profile.specs.Outcomes.{map_ok};
 ghost use Rattle.act_binding.specs.Binding.{with_shadows};
 ghost use Rattle.act_refusal.specs.Known.{AreNumbered, IsContract, count_with_shadows};
+ghost use Rattle.act_terms.specs.Named.{IsNamedIn};
 ghost use Rattle.act_portfolio.specs.Known.{IsGraph, portfolio_with};
 ghost use Rattle.act_portfolio.specs.Fit.{first_unfit};
 ghost use Rattle.act_portfolio.specs.Reading.{ordered};
@@ -13,7 +15,7 @@ ghost use Rattle.act_refusal.specs.Refusal.{refusal_of};
 use crate::portfolio::Portfolio;
 use act_binding::{Listing, child_lists, shadow_numbers, shadows, terms_of};
 use act_cones::{Contracts, all_cones, ranks};
-use act_model::{MOST_CONTRACTS, Names, Terms};
+use act_model::{MOST_CONTRACTS, Names, Plan, Terms};
 use act_refusal::{PortfolioFault, evaluation_order, plans_of};
 use act_terms::NamedTerms;
 use std::alloc::Global;
@@ -64,6 +66,7 @@ pub(crate) fn bound_portfolio(
 ) -> Result<Portfolio, PortfolioFault>
     requires names { names.contracts ≡ map (λ c. c.id) named.items }
     requires contracts { All IsContract named.items }
+    requires named { All (IsNamedIn names) named.items }
     requires numbered { AreNumbered named.items }
     requires few { count_with_shadows named.items ≤ MOST_CONTRACTS }
     requires fit { first_unfit named.items ≡ None }
@@ -83,6 +86,8 @@ pub(crate) fn bound_portfolio(
     } = graph;
     let plans = plans_of(alloc, &named, &shadows)?;
     let terms = terms_of(alloc, &names, named, &numbers, shadows, &plans)?;
+    are_bounded(&terms);
+    are_dated(&plans);
     let ranks = ranks(alloc, &children, &order)?;
     let contracts = Contracts {
         terms: &terms,
@@ -100,4 +105,22 @@ pub(crate) fn bound_portfolio(
         cones,
         unused,
     })
+}
+
+/// The days of terms are days, and their amounts numbers of the range. It does nothing, and stands where a proof needs this.
+fn are_bounded(terms: &[Terms])
+    ensures { All AreBounded terms.now }
+{
+    for contract in terms {
+        contract.are_bounded();
+    }
+}
+
+/// The events of plans stand on days. It does nothing, and stands where a proof needs this.
+fn are_dated(plans: &[Plan])
+    ensures { All IsDated plans.now }
+{
+    for plan in plans {
+        plan.is_dated();
+    }
 }

@@ -1,9 +1,11 @@
 //! A portfolio that was accepted.
-ghost use Rattle.std.specs.Prelude.{◌≡◌, ◌^◌, ◌<◌, ◌≤◌, ℕ, Some, Ok, [], IfOk, IfErr, IfSome, length, map, slice_get, slice_index_or, string_bytes};
+ghost use Rattle.std.specs.Prelude.{◌≡◌, ◌^◌, ◌<◌, ◌≤◌, ℕ, false, codes, Some, Ok, [], IfOk, IfErr, IfSome, length, map, slice_get, slice_index_or, string_bytes};
 ghost use Rattle.std.specs.List.{All};
 ghost use Rattle.std.specs.List.Sorted.{IsStrictlyIncreasing};
+ghost use Rattle.std.specs.Str.{bytes_eq};
 ghost use Rattle.act_causality.specs.Causality.{IsLinked, IsWithinDepth};
 ghost use Rattle.act_profile.specs.Built.{IsBuilt};
+ghost use Rattle.act_profile.specs.Printable.{ArePrintable};
 ghost use Rattle.act_model.specs.declared.terms.Terms.{Terms};
 ghost use Rattle.act_profile.specs.Plan.{plan_of};
 ghost use Rattle.act_refs.specs.Ordered.{order_of};
@@ -127,6 +129,16 @@ impl Portfolio {
         ensures named { length self.now.names.contracts ≤ length self.now.contracts.terms }
     {
         // What is true of a portfolio is known where one of its fields is looked at.
+        let _ = &self.order;
+    }
+
+    /// What is printed of the contracts' runs is there to be printed: their days are days, their amounts numbers of the range,
+    /// and what they name has a name. No contract has the name `*`. It does nothing, and stands where a proof needs this.
+    #[inline(always)]
+    pub fn contracts_are_printable(&self)
+        ensures printable { ArePrintable (length self.now.names.codes) (length self.now.names.currencies) self.now.contracts }
+        ensures no_star { All (λ name. bytes_eq name (codes "*") ≡ false) self.now.names.contracts }
+    {
         let _ = &self.order;
     }
 

@@ -12,3 +12,5 @@ pub mod Whole
 pub mod Ended
 pub mod FirstLines
 pub mod Turns
+pub mod Fronts
+pub mod Journals

@@ -69,8 +69,8 @@ module _ (names : NameLists) where
 
   -- ---- journals
 
-  abbrev pub IsJournal : List Item → Type 0
-  IsJournal items = (length items < 2 ^ 64) × AllByRecursion (IsItem names) items
+  abbrev pub JournalFits : List Item → Type 0
+  JournalFits items = (length items < 2 ^ 64) × AllByRecursion (IsItem names) items
 
   abbrev pub journal_lines : List Item → Lines
   journal_lines items = count_content (length items) ∷ items_lines items
@@ -78,10 +78,10 @@ module _ (names : NameLists) where
   one_count : Reads (line_by count_of_line) (λ n. count_content n ∷ []) IsCount
   one_count = line_reads count_line_reads.takes count_line_reads.again 0 (omega arith)
 
-  pub journal_reads : Reads (journal_at names) journal_lines IsJournal
+  pub journal_reads : Reads (journal_at names) journal_lines JournalFits
   unfolding journal_at
   journal_reads =
-      then_reads one_count (λ n is. items_reads n) (λ n items. items) journal_lines IsJournal (λ items is. (length items, items, is.0, (refl, is.1), refl))
+      then_reads one_count (λ n is. items_reads n) (λ n items. items) journal_lines JournalFits (λ items is. (length items, items, is.0, (refl, is.1), refl))
       (λ n items is are. (omega (arith, is, are.0), are.1)) (λ n items is are. ap (λ (k : ℕ). count_content k ∷ items_lines items) are.0)
 
   -- ---- rows

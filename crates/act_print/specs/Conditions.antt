@@ -52,6 +52,11 @@ pub record IsItem (names : NameLists) (item : Item) : Type 0 where
   pub caller_to : item.caller ≤ 16
   pub step : IsStep names item.step
 
+-- a journal that can be printed: fewer than 2^64 items of callers from 1 to 16, of which each names what there is
+pub record IsJournal (names : NameLists) (items : List Item) : Type 0 where
+  pub few : length items < 2 ^ 64
+  pub each : AllByRecursion (IsItem names) items
+
 -- a row with a day, a currency of the names, and amounts
 pub record IsRow (names : NameLists) (row : PrintedRow) : Type 0 where
   pub day : IsDay row.day

@@ -1,5 +1,5 @@
 -- Of what bytes are a text, and which of their lines is the first that none has there. This profile's own.
-use Rattle.std.specs.Prelude.{◌≡◌, ℕ, ◌+◌, ◌-◌, ◌≤◌, ◌==◌, ⊤, if◌then◌else◌, List, [], ◌∷◌, ◌++◌, length, take}
+use Rattle.std.specs.Prelude.{◌≡◌, ℕ, ◌+◌, ◌-◌, ◌≤◌, ◌==◌, ⊤, if◌then◌else◌, List, [], ◌∷◌, ◌++◌, length, take, Result, Ok, Err}
 use Rattle.act_model.specs.Names.{NameLists}
 use Rattle.act_print.specs.Conditions.{IsTranscript}
 use Rattle.act_print.specs.Printed.{Transcript}
@@ -22,6 +22,11 @@ pub record IsTextOf (names : NameLists) (bytes : List ℕ) (printed : Transcript
   pub conditions : IsTranscript names printed
   pub text : text_of names printed.items printed.answers ≡ bytes
 
+-- the bytes are a text of this alone
+pub record IsOnlyTextOf (names : NameLists) (bytes : List ℕ) (printed : Transcript) : Type 0 where
+  pub text : IsTextOf names bytes printed
+  pub only : (other : Transcript) → IsTextOf names bytes other → other ≡ printed
+
 -- a text begins with these lines
 abbrev pub Begins : NameLists → List (List ℕ) → Type 0
 Begins names lines =
@@ -40,3 +45,9 @@ pub record IsFirstFault (names : NameLists) (bytes : List ℕ) (number : ℕ) : 
 abbrev pub IsFaultOf : NameLists → List ℕ → TextFault → Type 0
 IsFaultOf names bytes (NotText number) = IsFirstFault names bytes number
 IsFaultOf names bytes NoMemory = ⊤
+
+-- what was printed is given back, unless memory ran out
+abbrev pub GivesBack : Transcript → Result Transcript TextFault → Type 0
+GivesBack printed (Ok read) = read ≡ printed
+GivesBack printed (Err (NotText number)) = ⊥
+GivesBack printed (Err NoMemory) = ⊤

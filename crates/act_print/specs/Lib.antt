@@ -3,6 +3,7 @@ pub mod Printed
 pub mod Text
 pub mod Conditions
 pub mod Faults
+pub mod Laws
 -- how reading goes line by line and word by word, which the proofs alone rest on
 pub mod Words
 pub mod LineWords

@@ -18,4 +18,7 @@ pub use fault::TextFault;
 pub use heads::{answer_head, answers_head, block_head, journal_head};
 pub use item::item_line;
 pub use printed::{Printed, PrintedAnswer, PrintedBlock, PrintedRow};
-pub use read::{different_transcripts_have_different_texts, read_journal, read_text};
+pub use read::{
+    different_journals_have_different_texts, different_transcripts_have_different_texts,
+    read_journal, read_text,
+};

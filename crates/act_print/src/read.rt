@@ -2,8 +2,9 @@
 ghost use Rattle.std.specs.Prelude.{◌≡◌, ℕ, ◌-◌, ◌^◌, ◌<◌, ◌≤◌, length, List, IfOk, IfErr, option_map};
 ghost use Rattle.act_model.specs.Names.{NameLists};
 ghost use Rattle.act_print.specs.Conditions.{ContractsNamed};
-ghost use Rattle.act_print.specs.Faults.{IsFaultOf, IsTextOf, lines_of};
+ghost use Rattle.act_print.specs.Faults.{GivesBack, IsFaultOf, IsTextOf, lines_of};
 ghost use Rattle.act_print.specs.Giving.{BeginsWithJournal, Finishes, PointsAt};
+ghost use Rattle.act_print.specs.Laws.{OneJournal};
 ghost use Rattle.act_print.specs.Printed.{Transcript};
 
 use crate::TextFault;
@@ -23,11 +24,14 @@ use std::alloc::Global;
 /// no text begins with the lines up to it; a last piece without a line feed counts as a line. Where a text begins with
 /// all lines and the bytes aren't whole, it is the number of the last line plus 1, which is 1 for no bytes. The bytes
 /// have fewer than 2^32 - 1 lines.
+///
+/// So what was printed is given back for its text, unless memory runs out.
 pub fn read_text(alloc: Global, names: &Names, bytes: &[u8]) -> Result<Printed, TextFault>
     requires lines { length (lines_of bytes.now) < 2 ^ 32 - 1 }
     ensures text { IfOk result (λ printed. IsTextOf names.now bytes.now printed) }
     ensures only { IfOk result (λ printed. (other : Transcript) → IsTextOf names.now bytes.now other → other ≡ printed) }
     ensures fault { IfErr result (λ fault. IsFaultOf names.now bytes.now fault) }
+    ensures back { (printed : Transcript) → IsTextOf names.now bytes.now printed → GivesBack printed result }
 {
     let Ok(contracts) = count_contracts(names) else {
         return Err(TextFault::NoMemory);
@@ -61,6 +65,12 @@ pub fn read_journal(
 pub fn different_transcripts_have_different_texts()
     ensures { (names : NameLists) (bytes : List ℕ) (one other : Transcript) → ContractsNamed names
         → IsTextOf names bytes one → IsTextOf names bytes other → one ≡ other }
+{}
+
+/// A law of texts, which does nothing: journals that differ have different texts, whatever their answers are, and whatever stands
+/// behind these.
+pub fn different_journals_have_different_texts()
+    ensures { OneJournal }
 {}
 
 /// What was read, where no line is left and the last has a line feed; else the line that is left in front.

@@ -19,6 +19,7 @@ pub mod Order
 pub mod Outcomes
 pub mod Plan
 pub mod Planning
+pub mod Printable
 pub mod Reads
 pub mod Run
 pub mod States

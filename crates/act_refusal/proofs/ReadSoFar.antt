@@ -1,10 +1,12 @@
 -- The contracts of a list, read one by one.
 use Rattle.std.proofs.Common.{◌≡◌, ℕ, zero, suc, ◌+◌, List, [], ◌∷◌, ◌++◌, Result, Ok, Err, refl, ap, sym, ◌∙◌, add-one, append_assoc, append-nil, arith}
-use Rattle.std.proofs.lemmas.List.Elements.{All-append}
+use Rattle.std.proofs.lemmas.List.Elements.{All-append, All-cons, All-nil}
 use Rattle.std.specs.List.{All}
 use Rattle.act_model.specs.Names.{NameLists, no_names}
 use Rattle.act_profile.specs.Outcomes.{then_ok}
+use Rattle.act_terms.proofs.TermsNamed.{named_more}
 use Rattle.act_terms.specs.Contract.{NamedTerms, contract_of}
+use Rattle.act_terms.specs.Named.{Grow, IsNamedIn}
 use Rattle.serde_json.specs.Data.{Data}
 use Rattle.act_refusal.specs.Known.{IsContract}
 use Rattle.act_refusal.specs.Steps.{contracts_from}
@@ -31,12 +33,14 @@ pub record IsReadTo (contracts left : List Data) (read : List NamedTerms) (names
   pub is : contracts_from zero no_names contracts ≡ behind read (contracts_from i names left)
   pub known : All IsContract read
   pub unnamed : names.contracts ≡ []
+  pub named : All (IsNamedIn names) read
 
 pub none_read : (contracts : List Data) (names : NameLists) → names ≡ no_names → IsReadTo contracts contracts [] names 0
 none_read contracts names fresh = record {
   is = rw fresh (behind-nil _);
   known = λ k d within. absurd (omega arith);
   unnamed = rw fresh refl;
+  named = λ k d within. absurd (omega arith);
 }
 
 with_rest : (c : NamedTerms) (r : Read) → then_ok (λ rest. Ok (c ∷ rest.0, rest.1)) r ≡ behind (c ∷ []) r
@@ -47,16 +51,20 @@ first_read : (i : ℕ) (names after : NameLists) (d : Data) (ds : List Data) (c 
 unfolding contracts_from
 first_read i names after d ds c is = rw is (with_rest c (contracts_from (suc i) after ds))
 
-one_known : (c : NamedTerms) → IsContract c → All IsContract (c ∷ [])
-one_known c is zero d within = is
-one_known c is (suc k) d within = absurd (omega arith)
+of_one : (P : NamedTerms → Type 0) (c : NamedTerms) → P c → All P (c ∷ [])
+of_one P c is = All-cons P c [] is (All-nil P)
+
+-- what contracts name among names they name among those that are no fewer
+all_more : (names after : NameLists) (read : List NamedTerms) → Grow names after → All (IsNamedIn names) read → All (IsNamedIn after) read
+all_more names after read grown named k d within = named_more names after _ grown (named k d within)
 
 pub one_read : (contracts left more : List Data) (read : List NamedTerms) (names after : NameLists) (i : ℕ) (d : Data) (c : NamedTerms) → IsReadTo contracts left read names i → left ≡ d ∷ more
-    → contract_of i names d ≡ Ok (c, after) → IsContract c → after.contracts ≡ names.contracts → IsReadTo contracts more (read ++ c ∷ []) after (i + 1)
-one_read contracts left more read names after i d c so_far here is known kept = record {
+    → contract_of i names d ≡ Ok (c, after) → IsContract c → after.contracts ≡ names.contracts → Grow names after × IsNamedIn after c → IsReadTo contracts more (read ++ c ∷ []) after (i + 1)
+one_read contracts left more read names after i d c so_far here is known kept named = record {
   is = so_far.is ∙ ap (behind read) (ap (contracts_from i names) here ∙ first_read i names after d more c is) ∙ behind-behind read c _ ∙ ap (λ n. behind (read ++ c ∷ []) (contracts_from n after more)) (sym (add-one i));
-  known = All-append IsContract read (c ∷ []) so_far.known (one_known c known);
+  known = All-append IsContract read (c ∷ []) so_far.known (of_one IsContract c known);
   unnamed = kept ∙ so_far.unnamed;
+  named = All-append (IsNamedIn after) read (c ∷ []) (all_more names after read named.0 so_far.named) (of_one (IsNamedIn after) c named.1);
 }
 
 first_refused : (i : ℕ) (names : NameLists) (d : Data) (ds : List Data) (refusal : Refusal) → refusing (refused_terms i) (contract_of i names d) ≡ Err refusal → contracts_from i names (d ∷ ds) ≡ Err refusal

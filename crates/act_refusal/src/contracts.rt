@@ -4,6 +4,7 @@ ghost use Rattle.std.specs.List.{All};
 ghost use Rattle.act_json.specs.Tree.{data_in};
 ghost use Rattle.act_model.specs.Names.{no_names};
 ghost use Rattle.act_terms.specs.Contract.{contract_of};
+ghost use Rattle.act_terms.specs.Named.{Grow, IsNamedIn};
 ghost use Rattle.act_refusal.specs.Known.{IsContract};
 ghost use Rattle.act_refusal.specs.Steps.{contracts_from};
 ghost use Rattle.act_refusal.specs.Refusal.{refusal_of, refused_terms, refusing};
@@ -35,6 +36,7 @@ pub fn read_contracts(
         contracts_from zero no_names (map (λ c. data_in c.value.now) contracts.now) ≡ Err refusal)) }
     ensures contracts { IfOk result (λ read. All IsContract read.named.items) }
     ensures unnamed { IfOk result (λ read. read.names.contracts ≡ []) }
+    ensures named { IfOk result (λ read. All (IsNamedIn read.names) read.named.items) }
 {
     let mut named = Vec::with_capacity(alloc, contracts.len())?;
     let mut names = Names::new(alloc);
@@ -59,6 +61,7 @@ fn next_contract(
         refusing (refused_terms number) (contract_of number names (data_in contract.now.value.now)) ≡ Err refusal)) }
     ensures contract { IfOk result (λ read. IsContract read.named) }
     ensures contracts { IfOk result (λ read. read.names.contracts ≡ names.contracts) }
+    ensures named { IfOk result (λ read. Grow names read.names × IsNamedIn read.names read.named) }
 {
     match read_contract(alloc, contract.value, number, names) {
         Ok(read) => Ok(read),

@@ -1,13 +1,11 @@
 -- What holds of each script that is read: its lines name what is there, and its entries are counted.
-use Rattle.std.proofs.Common.{◌≡◌, ℕ, ◌+◌, ◌<◌, ◌≤◌, nat_lt, Bool, true, false, if◌then◌else◌, ℤ, List, [], ◌∷◌, ◌++◌, length, Option, Some, None, IfSome, Result, Ok, Err, refl, sym, subst, arith, length-append, count_by}
+use Rattle.std.proofs.Common.{◌≡◌, ℕ, ◌+◌, ◌<◌, ◌≤◌, nat_lt, Bool, true, false, if◌then◌else◌, ℤ, List, [], ◌∷◌, ◌++◌, length, Option, Some, None, IfSome, Result, Ok, Err, refl, sym, subst, arith, count_by}
 use Rattle.std.proofs.lemmas.Bool.Decides.{nat_tests}
 use Rattle.std.proofs.lemmas.List.Elements.{All-nil, All-push, All-weaker}
-use Rattle.std.proofs.lemmas.List.Quantifiers.{position-Some}
 use Rattle.std.specs.List.{All}
 use Rattle.std.specs.Option.{ok_or}
-use Rattle.std.specs.Prelude.{is_some, unwrap_or}
-use Rattle.std.specs.Str.{bytes_eq}
 use Rattle.act_model.specs.Names.{NameLists, number_of, place_of, with_name}
+use Rattle.act_model.proofs.NamePlaces.{no_fewer, number_below, place_below}
 use Rattle.act_model.specs.declared.journal.Asked.TheVariants as asked
 use Rattle.act_model.specs.declared.journal.Line.{Line}
 use Rattle.act_model.specs.declared.journal.Step.{Step}
@@ -36,21 +34,6 @@ below n m h = grind (arith, nat_tests)
 above : (n m : ℕ) → nat_lt n m ≡ true → n < m
 above n m h = grind (arith, nat_tests)
 
-module _ (name : List ℕ) (names : List (List ℕ)) where
-  place_below : (place : ℕ) → place_of name names ≡ Some place → place < length names
-  place_below place e = (position-Some (bytes_eq name) names place name e).0
-
-  by_place : (found : Option ℕ) → place_of name names ≡ found → unwrap_or found (length names) < length (if is_some found then names else names ++ name ∷ [])
-  by_place None e = omega (arith, length-append names (name ∷ []))
-  by_place (Some place) e = place_below place e
-
-  number_below : number_of name names < length (with_name name names)
-  number_below = by_place (place_of name names) refl
-
-  by_known : (known : Bool) → length names ≤ length (if known then names else names ++ name ∷ [])
-  by_known true = omega arith
-  by_known false = omega (arith, length-append names (name ∷ []))
-
 -- a step that is known stays so with more codes
 more_codes : (names more : NameLists) → more.contracts ≡ names.contracts → length names.codes ≤ length more.codes → (step : Step) → is_known names step ≡ true → is_known more step ≡ true
 more_codes names more same few (Append (obs.Rate code day value)) is = let lt = above code (length names.codes) is in below code (length more.codes) (omega arith)
@@ -67,7 +50,7 @@ same_contracts (AskOne contract) names = refl
 
 no_fewer_codes : (form : Form) (names : NameLists) → length names.codes ≤ length (names_with form names).codes
 unfolding names_with
-no_fewer_codes (Rate code day value) names = by_known code names.codes (is_some (place_of code names.codes))
+no_fewer_codes (Rate code day value) names = no_fewer code names.codes
 no_fewer_codes (Event contract kind day value) names = omega arith
 no_fewer_codes AskAll names = omega arith
 no_fewer_codes (AskOne contract) names = omega arith

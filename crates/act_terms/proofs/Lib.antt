@@ -5,8 +5,8 @@ pub mod ContractIds
 pub mod CreditEvents
 pub mod Elements
 pub mod Given
-pub mod NamesKept
 pub mod Nesting
 pub mod TermNames
+pub mod TermsNamed
 pub mod UnusedNames
 pub mod WithoutWant

@@ -8,6 +8,7 @@ pub mod Fault
 pub mod Fields
 pub mod Inline
 pub mod Loan
+pub mod Named
 pub mod Names
 pub mod Redemption
 pub mod Reference

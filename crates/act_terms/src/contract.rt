@@ -7,6 +7,7 @@ ghost use Rattle.act_profile.specs.Built.{IsBuilt};
 ghost use Rattle.act_model.specs.Name.{is_name};
 ghost use Rattle.act_json.specs.Results.{result_map};
 ghost use Rattle.act_terms.specs.Contract.{contract_of, contract_type, kind_of, named_terms_of, terms_of, type_given};
+ghost use Rattle.act_terms.specs.Named.{Grow, IsNamedIn};
 
 use crate::common::read_common;
 use crate::credit::{read_cec, read_ceg};
@@ -80,6 +81,7 @@ pub fn read_contract(
     ensures no_star { IfOk result (λ read. bytes_eq read.named.id (codes "*") ≡ false) }
     ensures built { IfOk result (λ read. IsBuilt read.named.terms.kind) }
     ensures contracts { IfOk result (λ read. read.names.contracts ≡ names.contracts) }
+    ensures named { IfOk result (λ read. Grow names read.names × IsNamedIn read.names read.named) }
 {
     let Some(object) = Object::of(contract) else {
         return Err(refused(TermCause::WrongShape, "-"));

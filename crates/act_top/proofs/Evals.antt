@@ -52,8 +52,9 @@ abbrev pub outcome_of : Evaluation → Outcome
 outcome_of evaluation = evaluation_outcome evaluation
 
 -- that of a job's one script is what the command comes to
-pub eval-is : (job : Job) (evaluation : Evaluation) → evaluation.portfolio ≡ job.portfolio → evaluation.names ≡ job.scripts.names → job.scripts.lists ≡ evaluation.lines ∷ [] → IsEval job (outcome_of evaluation) None
-eval-is job evaluation portfolio names lines = record {
+pub eval-is : (job : Job) (evaluation : Evaluation) → IsRunnable job.portfolio job.scripts job.workers → evaluation.portfolio ≡ job.portfolio → evaluation.names ≡ job.scripts.names → job.scripts.lists ≡ evaluation.lines ∷ [] → IsEval job (outcome_of evaluation) None
+eval-is job evaluation runnable portfolio names lines = record {
+  runnable = runnable;
   lines = evaluation.lines;
   one = lines;
   is = rw (portfolio, names) refl;

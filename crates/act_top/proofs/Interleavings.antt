@@ -1,5 +1,5 @@
 -- Journals that hold the steps of several scripts.
-use Rattle.std.proofs.Common.{◌≡◌, ◌≢◌, ℕ, zero, suc, ◌+◌, ◌<◌, ◌≤◌, Some, List, [], ◌∷◌, ◌++◌, length, map, unwrap_or, append-nil, refl, sym, ap, ◌∙◌, arith}
+use Rattle.std.proofs.Common.{◌≡◌, ◌≢◌, ℕ, zero, suc, ◌+◌, ◌<◌, ◌≤◌, Some, List, [], ◌∷◌, ◌++◌, length, map, unwrap_or, append-nil, refl, sym, ap, subst, ◌∙◌, arith}
 use Rattle.std.specs.Prelude.{◌==◌, slice_get}
 use Rattle.std.specs.List.{All, enumerate_from, filter, flat_map}
 use Rattle.std.proofs.lemmas.Bool.{eq-eqb, ne_eqb}
@@ -8,7 +8,7 @@ use Rattle.std.proofs.lemmas.List.Elements.{All-append, All-head, All-map, All-n
 use Rattle.act_model.specs.declared.journal.Item.{Item}
 use Rattle.act_model.specs.declared.journal.Line.{Line}
 use Rattle.act_model.specs.declared.journal.Step.{Step}
-use Rattle.act_session.specs.Interleaving.{steps_by, steps_of}
+use Rattle.act_session.specs.Interleaving.{IsInterleaving, steps_by, steps_of}
 use Rattle.act_top.specs.Laws.{InTurnIsInterleaving, OneScriptIsJournal, items_by}
 use Rattle.act_transcript.specs.Text.{items_of}
 use Rattle.act_session.proofs.Interleaved.{mine-first, other-first}
@@ -83,3 +83,7 @@ scripts-in-turn lists = record {
   callers = λ k d within. let both = callers-from 1 lists k d within in (both.0, omega (arith, both.1));
   steps = λ place lines there. let number : place + 1 ≡ 1 + place = omega arith in rw number (steps-from 1 lists place lines there);
 }
+
+-- the journal of one script is an interleaving of it
+pub in-turn-of-one : (lines : List Line) → IsInterleaving (lines ∷ []) (items_of lines)
+in-turn-of-one lines = subst (IsInterleaving (lines ∷ [])) (append-nil (items_of lines)) (scripts-in-turn (lines ∷ []))

@@ -57,13 +57,14 @@ playable portfolio scripts workers ready some = record {
 }
 
 -- what was played is of the job
-pub played-of : {A E : Type 0} (kept_of : Reply → A) (job : Job) (of : Accepted) (lists : List (List Line)) (r : Result (Session A) E) → of ≡ job.portfolio → lists ≡ job.scripts.lists → job.scripts.names.contracts ≡ job.portfolio.names.contracts
+pub played-of : {A E : Type 0} (kept_of : Reply → A) (job : Job) (of : Accepted) (lists : List (List Line)) (r : Result (Session A) E) → of ≡ job.portfolio → lists ≡ job.scripts.lists → IsRunnable job.portfolio job.scripts job.workers
     → IfOk r (λ s. IsPlayed of lists s.board) → IfOk r (λ s. replies_of s.answers.items ≡ map kept_of (answers_of of.contracts of.names (journal_of s.board))) → IfOk r (IsPlayOf kept_of job)
-played-of kept_of job of lists (Ok s) portfolio same contracts played answers = record {
+played-of kept_of job of lists (Ok s) portfolio same runnable played answers = record {
+  runnable = runnable;
   played = subst (λ (p : Accepted). IsPlayed p job.scripts.lists s.board) portfolio (subst (λ (ls : List (List Line)). IsPlayed of ls s.board) same played);
-  answers = answers ∙ ap (map kept_of) (ap (λ (p : Accepted). answers_of p.contracts p.names (journal_of s.board)) portfolio ∙ answers-same job.portfolio.contracts job.portfolio.names job.scripts.names (journal_of s.board) (sym contracts));
+  answers = answers ∙ ap (map kept_of) (ap (λ (p : Accepted). answers_of p.contracts p.names (journal_of s.board)) portfolio ∙ answers-same job.portfolio.contracts job.portfolio.names job.scripts.names (journal_of s.board) (sym runnable.lines.contracts));
 }
-played-of kept_of job of lists (Err e) portfolio same contracts played answers = tt
+played-of kept_of job of lists (Err e) portfolio same runnable played answers = tt
 
 -- ---- what is written
 
@@ -89,8 +90,8 @@ desk_outcome job history = record {
   rows = 0;
 }
 
-pub desk-is : (job : Job) (history : History) (handed : Option History) → IsPlayed job.portfolio job.scripts.lists history → handed ≡ Some history → IsDesk job (desk_outcome job history) handed
-desk-is job history handed played hands = record { history = history; hands = hands; played = played; text = refl; status = refl; rows = refl }
+pub desk-is : (job : Job) (history : History) (handed : Option History) → IsRunnable job.portfolio job.scripts job.workers → IsPlayed job.portfolio job.scripts.lists history → handed ≡ Some history → IsDesk job (desk_outcome job history) handed
+desk-is job history handed runnable played hands = record { runnable = runnable; history = history; hands = hands; played = played; text = refl; status = refl; rows = refl }
 
 -- of what was played of a number
 abbrev pub big_outcome : ℕ → Job → History → Outcome

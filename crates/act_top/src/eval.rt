@@ -2,6 +2,7 @@
 ghost use Rattle.std.specs.Prelude.{◌≡◌, ◌≤◌, ◌∷◌, [], List, None, length, map, string_bytes, IfOk};
 ghost use Rattle.act_engine.specs.Ending.{Goes};
 ghost use Rattle.act_engine.specs.Reading.{Reads, read_of};
+ghost use Rattle.act_job.specs.Job.{IsRunnable};
 ghost use Rattle.act_model.specs.declared.journal.Line.{Line};
 ghost use Rattle.act_top.specs.Eval.{eval_meaning, eval_reading};
 
@@ -59,6 +60,7 @@ fn eval_job<'a, F: Files>(
 /// The evaluation of a job's one script.
 fn evaluation_of(job: &Job) -> Evaluation<'_>
     requires { length job.now.scripts.lists ≡ 1 }
+    ensures runnable { IsRunnable job.now.portfolio job.now.scripts job.now.workers }
     ensures portfolio { result.portfolio ≡ job.now.portfolio }
     ensures names { result.names ≡ job.now.scripts.names }
     ensures lines { job.now.scripts.lists ≡ result.lines ∷ [] }
@@ -66,6 +68,6 @@ fn evaluation_of(job: &Job) -> Evaluation<'_>
     Evaluation {
         portfolio: &job.portfolio,
         names: &job.scripts.names,
-        lines: &job.scripts.lists[0],
+        lines: &job.lists()[0],
     }
 }

@@ -77,8 +77,9 @@ pub fn eval_top<F: Files, K: Sink, L: Ledger>(
 /// Runs the commands that threads run, and writes their text, or a line that says why it is refused.
 ///
 /// `desk W P S1 .. Sk`: W is a decimal from 1 to 64 without sign or leading zero, P names the portfolio file, and each of 1 to 16
-/// script files is a caller's. Callers and W workers work on one board, which tells the context's gate of each evaluation before and after it.
-/// What is written is the journal of all callers, and then the answer to each ask over the entries before it, by caller and number.
+/// script files is a caller's. Callers and up to W workers, as many as threads can be made for, work on one board, which tells the
+/// context's gate of each evaluation before and after it. What is written is the journal of all callers, and then the answer to each ask
+/// over the entries before it, by caller and number.
 ///
 /// `big N W`: N is such a decimal from 1 to 1,000. The generator makes a portfolio and a script of it, which are run in the same way,
 /// with no file, and five lines are written: `big N`, how many contracts have a name, how many asks there are, how many rows their

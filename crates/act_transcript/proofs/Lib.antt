@@ -1,4 +1,5 @@
 pub mod JournalAnswers
 pub mod KnownLines
+pub mod Readable
 pub mod Replies
 pub mod Texts

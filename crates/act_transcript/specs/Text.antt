@@ -10,7 +10,7 @@ use Rattle.act_model.specs.Run.{Stream}
 use Rattle.act_model.specs.declared.journal.Item.{Item}
 use Rattle.act_model.specs.declared.journal.Line.{Line}
 use Rattle.act_portfolio.specs.Reading.{Accepted}
-use Rattle.act_print.specs.Printed.{printed_answer, printed_block}
+use Rattle.act_print.specs.Printed.{Transcript, printed_answer, printed_block}
 use Rattle.act_print.specs.Text.{answer_text, answers_head_text, block_text, item_text, journal_head_text, text_of}
 use Rattle.act_profile.specs.Answers.{answers_of}
 
@@ -27,6 +27,11 @@ items_of lines = map item_of_line lines
 -- a journal, and the line above so many answers
 abbrev pub heads_text : NameLists → List Item → ℕ → List ℕ
 heads_text names items answers = journal_head_text (length items) ++ flat_map (item_text names) items ++ answers_head_text answers
+
+-- a journal with the answers to its asks, as they are printed
+abbrev pub transcript_of : Accepted → NameLists → List Item → Transcript
+transcript_of portfolio names items =
+    record { items = items; answers = map printed_answer (answers_of portfolio.contracts names items) }
 
 -- the text of a journal and its answers
 abbrev pub output_of : Accepted → NameLists → List Item → List ℕ

@@ -6,7 +6,7 @@ ghost use Rattle.act_top.specs.Commands.{EndsAs};
 ghost use Rattle.act_top.specs.Words.{command_of};
 
 use act_desk::Context;
-use act_engine::{Status, words_behind_the_name};
+use act_engine::{Status, exit_of, words_behind_the_name};
 use act_io::{Files, NoGate, RealFiles, Sink, StdSink};
 use act_num::{NoMemory, Steps};
 use act_top::{Ran, actus_top};
@@ -33,7 +33,7 @@ fn main(rt: HostRuntime) -> ExitCode {
         )),
         Err(NoMemory) => Status::NoMemory,
     };
-    ExitCode::from(status.if_written(out.finish().is_ok()).number())
+    exit_of(status, out.finish().is_ok())
 }
 
 /// Runs a command with a counter of its own, and a gate that does nothing.

@@ -6,7 +6,7 @@ ghost use Rattle.act_audit.specs.Audit.{EndsAs};
 ghost use Rattle.act_audit.specs.Words.{audit_of};
 
 use act_audit::audit_top;
-use act_engine::{Status, words_behind_the_name};
+use act_engine::{Status, exit_of, words_behind_the_name};
 use act_io::{Files, RealFiles, Sink, StdSink};
 use act_num::{NoMemory, Steps};
 use std::alloc::Global;
@@ -23,7 +23,7 @@ fn main(rt: HostRuntime) -> ExitCode {
         Ok(words) => run::<Brand, _, _>(alloc, &words, &mut files, &mut out, Blank::new(1)),
         Err(NoMemory) => Status::NoMemory,
     };
-    ExitCode::from(status.if_written(out.finish().is_ok()).number())
+    exit_of(status, out.finish().is_ok())
 }
 
 /// An audit with a counter of its own.

@@ -34,16 +34,12 @@ pub fn answer<R: Threads + Wait + Sync, F: Files>(
     if call == "race" || call == "race_among_all" {
         return raced(rt, case, files, call);
     }
-    let gate = Meeting::new();
     let line = case.given;
     let (ended, out) = match call {
-        "meet" => at_desk(rt, case, files, line, &gate),
+        "meet" => met(rt, case, files, line),
         "among_all" => among_all(rt, case, files, line),
         _ => at_desk(rt, case, files, line, &NoGate),
     };
-    if call == "meet" {
-        gate.told(case);
-    }
     case.value(ended.status);
     if ended.has_board {
         case.text(" with its board");
@@ -70,6 +66,21 @@ fn at_desk<R: Threads + Wait + Sync, F: Files, G: Gate>(
     };
     let ran = desk_top(&context, &words, &mut files, &mut out);
     (end_of(ran), out)
+}
+
+/// Runs a command behind a number, with a gate where so many evaluations meet, and tells what the gate was told. It answers how it
+/// ended, and the sink.
+fn met<R: Threads + Wait + Sync, F: Files>(
+    rt: &R,
+    case: &mut Case<'_>,
+    files: &mut F,
+    words: &str,
+) -> (Ended, MemSink) {
+    let (wanted, line) = words.split_once(" ").unwrap_or((words, ""));
+    let gate = Meeting::new(rt, case.alloc, case.place_of(wanted));
+    let ran = at_desk(rt, case, files, line, &gate);
+    gate.told(case);
+    ran
 }
 
 /// Runs a command by the call that runs them all. It answers how it ended, and the sink.

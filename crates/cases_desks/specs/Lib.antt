@@ -1,2 +1,3 @@
 pub mod Caller
+pub mod Crew
 pub mod Script

@@ -97,7 +97,7 @@ fn driven<'a, R: Threads + Wait + Sync>(
 }
 
 /// For each caller as many entries as it draws calls.
-fn quotas_of(alloc: Global, callers: usize, calls: u32) -> Option<Vec<u64>>
+pub fn quotas_of(alloc: Global, callers: usize, calls: u32) -> Option<Vec<u64>>
     ensures quotas { IfSome result (λ quotas. quotas.items ≡ replicate callers calls) }
     ensures count { IfSome result (λ quotas. length quotas.items ≡ callers) }
 {
@@ -190,7 +190,7 @@ fn replay_told<R: Threads + Wait + Sync>(
 }
 
 /// What comes of the steps of a journal as the script of one caller.
-fn replayed<R: Threads + Wait + Sync>(
+pub fn replayed<R: Threads + Wait + Sync>(
     rt: &R,
     alloc: Global,
     portfolio: &Arc<Portfolio, Global>,

@@ -8,6 +8,7 @@ mod given_up;
 mod heard;
 mod sessions;
 mod turns;
+mod waking;
 
 use act_io::Files;
 use act_model::{MOST_BYTES, Names};
@@ -67,6 +68,7 @@ fn of_names<R: Threads + Wait + Sync>(
         "drive" => drive::drive_told(rt, case, portfolio, names),
         "given_up" => given_up::given_up_told(rt, case, portfolio, names),
         "sessions" => sessions::sessions_told(rt, case, portfolio),
+        "waking" => waking::waking_told(rt, case, portfolio, names),
         _ => case.fail("no such call"),
     }
 }

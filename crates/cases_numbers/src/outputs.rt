@@ -1,10 +1,10 @@
 //! Calls of the standard output: what is gathered, and what is written at once.
-use act_io::{Sink, StdSink};
+use act_io::{PutFault, Sink, StdSink};
 use cases_rows::Case;
 use std::alloc::Global;
 use std::cell::RefCell;
 use std::fmt::Display;
-use std::io::{Error, ErrorKind, Result as Written};
+use std::io::{Error, ErrorKind, Result as Written, Write as _};
 
 /// An output that keeps what is written, with a bar behind each piece.
 #[derive(Drop)]
@@ -36,6 +36,29 @@ impl Output {
             Ok(pieces) => case.bytes_told(&pieces),
             Err(_) => case.fail("what was written is borrowed"),
         }
+    }
+
+    /// Tells how long the pieces are that were written, and how many of them aren't the next bytes of a text.
+    fn pieces_told(&self, case: &mut Case<'_>, text: &[u8]) {
+        let Ok(pieces) = self.pieces.try_borrow() else {
+            return case.fail("what was written is borrowed");
+        };
+        let mut rest = text;
+        let mut differ = 0u64;
+        case.text(", pieces");
+        for piece in pieces.split(|byte| *byte == b'|') {
+            if !piece.is_empty() {
+                case.text(" ");
+                case.value(piece.len());
+            }
+            match rest.strip_prefix(piece) {
+                Some(behind) => rest = behind,
+                None => differ = differ.saturating_add(1),
+            }
+        }
+        case.text(", ");
+        case.value(differ);
+        case.text(" differ");
     }
 }
 
@@ -113,4 +136,47 @@ fn put(case: &mut Case<'_>, sink: &mut StdSink<'_, Output>, word: &str) {
         Ok(count) => case.value(count),
         Err(fault) => case.value(fault),
     }
+}
+
+/// Tells what comes of lines with the numbers from 1 on that are put one by one, and of the end, where the system answers as above:
+/// how many bytes were taken, or the fault; how long the pieces are that were written; and how many of them aren't the next bytes
+/// of these lines.
+pub fn lines(case: &mut Case<'_>) {
+    let (left, interruptions, most) = (case.place(), case.place(), case.count());
+    let (last, call) = (case.count(), case.word());
+    let text = numbers_to(case, last);
+    let output = Output::new(case.alloc, left, interruptions, most);
+    let mut sink = StdSink::new(case.alloc, &output);
+    match put_each(&mut sink, &text, call) {
+        Ok(taken) => {
+            case.value(taken);
+            case.text(" taken");
+        }
+        Err(fault) => case.value(fault),
+    }
+    output.pieces_told(case, &text);
+}
+
+/// The numbers from 1 to the last, each in a line.
+fn numbers_to(case: &mut Case<'_>, last: u32) -> Vec<u8> {
+    let mut text = Vec::new(case.alloc);
+    for number in 1..=last {
+        if writeln!(text, "{number}").is_err() {
+            case.fail("memory ran out");
+        }
+    }
+    text
+}
+
+/// Puts the lines of a text one by one, writes at last what is gathered, and answers how many bytes were taken.
+fn put_each(sink: &mut StdSink<'_, Output>, text: &[u8], call: &str) -> Result<usize, PutFault> {
+    let mut taken = 0usize;
+    for line in text.split_inclusive(|byte| *byte == b'\n') {
+        taken = taken.saturating_add(match call {
+            "put_lines" => sink.put_lines(line)?,
+            _ => sink.put(line)?,
+        });
+    }
+    sink.finish()?;
+    Ok(taken)
 }

@@ -17,6 +17,7 @@ pub fn answer(case: &mut Case<'_>, call: &str) {
         "fetches" => fetches(case),
         "puts" | "puts_lines" => puts(case, call),
         "output" => outputs::answer(case),
+        "output_lines" => outputs::lines(case),
         "steps" | "gate" => quiet(case, call),
         "generated_text" | "generated" => {
             let (n, kind) = (case.count(), case.word());

@@ -1,10 +1,11 @@
-use Rattle.std.proofs.Common.{◌≤◌, length, sym, ap, ◌∙◌, arith}
+use Rattle.std.proofs.Common.{◌≤◌, ◌+◌, ℕ, length, sym, ap, ◌∙◌, arith}
 use Rattle.std.specs.Arc.{arc_value}
 use Rattle.std.proofs.lemmas.Result.{IfOk-weaker}
-use Rattle.act_audit.specs.Audit.{ComputesAsEval, with_text}
+use Rattle.act_audit.specs.Audit.{with_text}
 use Rattle.act_audit.specs.Text.{journal_lines, most_text}
 use Rattle.act_audit.proofs.Journals.{read-items}
 use Rattle.act_audit.proofs.Judged.{counted-of, no-text-of, none-counted, none-of, parts-of, said-of, same-contracts}
+use Rattle.act_audit.proofs.Rights.{whatever}
 use Rattle.act_audit.proofs.judging.judge.Goals as goal
 use Rattle.act_job.specs.Job.{IsRunnable, Job}
 use Rattle.act_job.specs.Scripts.{Scripts}
@@ -41,8 +42,9 @@ returns-in-Some-clause-rows g c =
     let read = rw c.in-Some.is at c.in_ok-items.ensures in
     let is = ap (λ (j : Job). with_text c.job.inside.text.items j) c.job-2.view_is ∙ c.job.view_is in
     let of = parts-of c.args.job (arc_value c.job-2.inside.portfolio) c.job-2.inside.scripts _ c.scripts.inside.names c.in_ok-names.names _ _ c.deref.result.now is c.scripts.view_is c.in_ok-names.ensures c.deref.ensures.value in
-    counted-of c.args.job _ _ _ _ of c.deref-2.result.now c.deref-in-Some.result.now (line_lists c.deref-in-Some-2.result.now) c.in-Some.items.items read.0 c.args.steps.now c.judge_journal.new.steps c.judge_journal.result c.deref-2.ensures.value read.1
-    c.deref-in-Some.ensures.value (ap line_lists c.deref-in-Some-2.ensures.value) c.judge_journal.ensures.verdict c.judge_journal.ensures.rows
+    IfOk-weaker c.judge_journal.result _ _ (λ verdict told.
+    told ∙ ap (λ (rows : ℕ). c.args.steps.now + rows) (counted-of c.args.job _ _ _ _ of c.deref-2.result.now c.in-Some.items.items read.0 c.deref-2.ensures.value read.1))
+    c.judge_journal.ensures.rows
 
 pub returns-clause-verdict : goal.returns-clause-verdict
 returns-clause-verdict g c =
@@ -52,4 +54,8 @@ returns-clause-verdict g c =
     IfOk-weaker c.no_text.result _ _ (λ verdict said. none-of c.args.job _ _ _ _ of c.deref-2.result.now c.deref-in-None.result.now read.0 verdict c.deref-2.ensures.value read.1 c.deref-in-None.ensures.value said) c.no_text.ensures
 
 pub returns-clause-rows : goal.returns-clause-rows
-returns-clause-rows g c = none-counted (ComputesAsEval c.args.job) _ c.args.steps.now c.no_text.result c.no_text.ensures
+returns-clause-rows g c =
+    let read = rw c.in-None.is at c.in_ok-items.ensures in
+    let is = ap (λ (j : Job). with_text c.job.inside.text.items j) c.job-2.view_is ∙ c.job.view_is in
+    let of = parts-of c.args.job (arc_value c.job-2.inside.portfolio) c.job-2.inside.scripts _ c.scripts.inside.names c.in_ok-names.names _ _ c.deref.result.now is c.scripts.view_is c.in_ok-names.ensures c.deref.ensures.value in
+    whatever c.no_text.result _ (omega (arith, none-counted c.args.job _ _ _ _ of c.deref-2.result.now read.0 c.deref-2.ensures.value read.1))

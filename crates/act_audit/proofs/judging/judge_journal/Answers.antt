@@ -1,11 +1,13 @@
-use Rattle.std.proofs.Common.{◌≡◌, ◌≢◌, ◌+◌, ℕ, IfOk, List, Some, length, refl, sym, ap, subst, ◌∙◌}
+use Rattle.std.proofs.Common.{◌≡◌, ◌≢◌, ◌+◌, IfOk, List, None, Some, length, sym, ap, subst, ◌∙◌}
 use Rattle.std.specs.Arc.{arc_value}
 use Rattle.std.proofs.lemmas.Result.{IfOk-weaker}
+use Rattle.act_audit.specs.Audit.{rows_within}
 use Rattle.act_audit.specs.Journal.{as_one_caller, first_past, one_script, right_text}
 use Rattle.act_audit.specs.Judging.{IsOrdered, IsVerdictFor, Journal}
 use Rattle.act_audit.specs.Text.{first_difference, has_work_line}
-use Rattle.act_audit.proofs.Judged.{all-counted, differs-verdict, none-counted, ordered-verdict, past-verdict}
+use Rattle.act_audit.proofs.Judged.{differs-verdict, ordered-verdict, past-counted, past-verdict, within-counted}
 use Rattle.act_audit.proofs.Readiness.{asks-below, ready-of}
+use Rattle.act_audit.proofs.Rights.{whatever}
 use Rattle.act_audit.proofs.judging.judge_journal.Goals as goal
 use Rattle.act_audit.proofs.judging.judge_journal.Goals.{In_ok-line, In_ok-line-2}
 use Rattle.act_eval.specs.Work.{work_of}
@@ -32,6 +34,14 @@ past-is g c =
 items-are : (g : _) (c : In_ok-line-2 g) → c.deref-5.result.now ≡ c.args.journal.items
 items-are g c = c.deref-5.ensures.value ∙ ap (λ (j : Journal). j.items) c.journal.view_is
 
+-- the rows of one that isn't too much are computed
+counted : (g : _) (c : In_ok-line-2 g) → first_past (arc_value c.args.portfolio.now) c.args.journal.items ≡ None
+    → c.difference.new.steps ≡ c.args.steps.now + rows_within (arc_value c.args.portfolio.now) c.args.journal.items (first_past (arc_value c.args.portfolio.now) c.args.journal.items)
+counted g c within =
+    let p = arc_value c.args.portfolio.now in
+    within-counted p c.args.journal.items c.args.steps.now c.difference.new.steps within
+    (c.in_ok-line-2.ensures.ticked ∙ ap (λ (is : List Item). c.args.steps.now + work_of p (as_one_caller is)) (items-are g c))
+
 pub invariant_of-evaluation : goal.invariant_of-evaluation
 invariant_of-evaluation g c =
     ready-of (arc_value c.args.portfolio.now) c.args.journal c.journal.inside.names c.journal.inside.items.items c.deref.result.now c.deref-4.result.now c.journal.view_is c.deref.ensures.value (c.deref-4.ensures.value ∙ c.in_ok-lines.ensures)
@@ -48,7 +58,8 @@ returns-in-Some-clause-verdict g c =
 
 pub returns-in-Some-clause-rows : goal.returns-in-Some-clause-rows
 returns-in-Some-clause-rows g c =
-    none-counted (λ rows. rows ≡ work_of (arc_value c.args.portfolio.now) (as_one_caller c.args.journal.items)) _ c.args.steps.now c.wrong_at.result c.wrong_at.ensures
+    whatever c.wrong_at.result _
+    (past-counted (arc_value c.args.portfolio.now) c.args.journal.items c.in-Some.line c.args.steps.now (sym (past-is g (goal.at.returns-in-Some-clause-rows g c).In_ok-line) ∙ c.in-Some.is))
 
 pub returns-in-Some-2-clause-verdict : goal.returns-in-Some-2-clause-verdict
 returns-in-Some-2-clause-verdict g c =
@@ -62,9 +73,8 @@ returns-in-Some-2-clause-verdict g c =
 
 pub returns-in-Some-2-clause-rows : goal.returns-in-Some-2-clause-rows
 returns-in-Some-2-clause-rows g c =
-    let work : List Item → ℕ = λ items. work_of (arc_value c.args.portfolio.now) (as_one_caller items) in
-    all-counted c.args.steps.now c.difference.new.steps (work c.args.journal.items) c.wrong_at-in-Some-2.result
-    (c.in_ok-line-2.ensures.ticked ∙ ap (λ (is : List Item). c.args.steps.now + work is) (items-are g (goal.at.returns-in-Some-2-clause-rows g c).In_ok-line-2))
+    let judged = goal.at.returns-in-Some-2-clause-rows g c in
+    whatever c.wrong_at-in-Some-2.result _ (counted g judged.In_ok-line-2 (sym (past-is g judged.In_ok-line) ∙ c.in_default.is))
 
 pub returns-clause-verdict : goal.returns-clause-verdict
 returns-clause-verdict g c =
@@ -78,8 +88,6 @@ returns-clause-verdict g c =
     (ordered-verdict p names text (line_lists c.args.scripts.now) c.args.journal.items (sym (past-is g judged.In_ok-line) ∙ c.in_default.is) c.judge_order.result same ordered)
 
 pub returns-clause-rows : goal.returns-clause-rows
-returns-clause-rows g c = (
-  work_of (arc_value c.args.portfolio.now) (as_one_caller c.args.journal.items),
-  c.in_ok-line-2.ensures.ticked ∙ ap (λ (is : List Item). c.args.steps.now + work_of (arc_value c.args.portfolio.now) (as_one_caller is)) (items-are g (goal.at.returns-clause-rows g c).In_ok-line-2),
-  λ answers right. refl,
-)
+returns-clause-rows g c =
+    let judged = goal.at.returns-clause-rows g c in
+    counted g judged.In_ok-line-2 (sym (past-is g judged.In_ok-line) ∙ c.in_default.is)

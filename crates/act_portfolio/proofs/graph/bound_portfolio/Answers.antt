@@ -32,11 +32,11 @@ terms_of-requires-clause-numbers c = ap length c.deref-3.ensures.value ∙ many_
 pub ranks-requires-clause-few : goal.ranks-requires-clause-few
 ranks-requires-clause-few c =
     let few = few_lists _ _ _ _ _ c.requires.graph c.requires.contracts c.requires.few in
-    rw c.deref-6.ensures.value (omega (arith, order_counted _ _ c.requires.graph.ordered))
+    rw c.deref-8.ensures.value (omega (arith, order_counted _ _ c.requires.graph.ordered))
 
 pub all_cones-requires-clause-planned : goal.all_cones-requires-clause-planned
 all_cones-requires-clause-planned c =
-    rw (c.deref-7.ensures.value, c.deref-8.ensures.value)
+    rw (c.deref-9.ensures.value, c.deref-10.ensures.value)
     (have_plans _ _ _ _ _ c.requires.graph c.requires.contracts c.requires.few c.in_ok-plans.plans.items (rw (c.deref.ensures.value, c.deref-2.ensures.value) at c.in_ok-plans.ensures.plans) c.in_ok-terms.terms.items
     (rw (c.deref-3.ensures.value, c.deref-4.ensures.value) at c.in_ok-terms.ensures))
 
@@ -45,8 +45,8 @@ invariant_of-result c =
     let lists = c.args.graph.children.items in
     is_kept _ _ _ _ _ c.requires.graph c.requires.contracts c.requires.few c.in_ok-plans.plans.items (rw (c.deref.ensures.value, c.deref-2.ensures.value) at c.in_ok-plans.ensures.plans) c.in_ok-terms.terms.items
     (rw (c.deref-3.ensures.value, c.deref-4.ensures.value) at c.in_ok-terms.ensures) c.args.names (map (λ u. map string_bytes u.items) c.args.unused.items) c.requires.names (length-map c.args.unused.items (λ u. map string_bytes u.items) ∙ c.requires.unused)
-    c.requires.fit c.requires.numbered _ _ _ _ (subst (λ (m : ℕ). AreRanks m c.args.graph.order.items c.in_ok-ranks.ranks.items) (sym (length-map lists (λ l. l.items))) (rw (c.deref-5.ensures.value, c.deref-6.ensures.value) at c.in_ok-ranks.ensures))
-    (rw (c.deref-7.ensures.value, c.deref-8.ensures.value, c.deref-9.ensures.value) at c.in_ok-cones.ensures)
+    c.requires.fit c.requires.numbered c.requires.named (rw c.deref-5.ensures.value at c.are_bounded.ensures) (rw c.deref-6.ensures.value at c.are_dated.ensures) _ _ _ _ (subst (λ (m : ℕ). AreRanks m c.args.graph.order.items c.in_ok-ranks.ranks.items) (sym (length-map lists (λ l. l.items))) (rw (c.deref-7.ensures.value, c.deref-8.ensures.value) at c.in_ok-ranks.ensures))
+    (rw (c.deref-9.ensures.value, c.deref-10.ensures.value, c.deref-11.ensures.value) at c.in_ok-cones.ensures)
 
 pub returns-clause-accepted : goal.returns-clause-accepted
 returns-clause-accepted c =

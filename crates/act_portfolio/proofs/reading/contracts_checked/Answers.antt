@@ -43,5 +43,6 @@ returns-clause-checked c = record {
   fit = rw c.deref.ensures.value at c.in_ok-check.ensures.fit;
   few = rw c.deref.ensures.value at c.in_ok-check.ensures.few_contracts;
   are = c.in_ok-named.ensures.contracts;
+  named = c.in_ok-named.ensures.named;
   left = rw c.deref-2.ensures.value at c.in_ok-unused.ensures;
 }

@@ -8,7 +8,7 @@ use Rattle.serde_json.specs.Data.{Data}
 use Rattle.act_portfolio.specs.Known.{AreChecked, CheckedContracts}
 use Rattle.act_portfolio.specs.Reading.{portfolio_listed}
 use Rattle.act_refusal.specs.Refusal.{refusal_of}
-use Rattle.act_portfolio.proofs.Accepting.{accepts, as_many_read, refused_graph, refused_plans, unused_are_many}
+use Rattle.act_portfolio.proofs.Accepting.{accepts, as_many_read, named_among, refused_graph, refused_plans, unused_are_many}
 use Rattle.act_refusal.proofs.Numbered.{are_numbered}
 use Rattle.act_portfolio.proofs.reading.portfolio_checked.Goals as goal
 
@@ -19,6 +19,11 @@ returns-in_err-graph-clause-refused c =
     let checked = subst (AreChecked objects) (sym c.checked.view_is) given in
     refused_graph objects _ _ checked.read refusal checked.passed no_order) in
     search rules
+
+pub bound_portfolio-requires-clause-named : goal.bound_portfolio-requires-clause-named
+bound_portfolio-requires-clause-named c =
+    let known = subst (λ (contracts : CheckedContracts). (objects : List Data) × AreChecked objects contracts) (sym c.checked.view_is) c.requires in
+    rw known.1.names (named_among known.1.before _ _ known.1.named)
 
 pub bound_portfolio-requires-clause-numbered : goal.bound_portfolio-requires-clause-numbered
 bound_portfolio-requires-clause-numbered c =

@@ -20,7 +20,7 @@ pub loop-number-preserved : goal.loop-number-preserved
 loop-number-preserved c =
     let here = left_from (λ c. data_in c.value.now) c.args.contracts.now c.loop-number.number c.index-contracts-number.result c.loop-number-test.true c.index-contracts-number.is in
     let h = c.in_ok-next.ensures in
-    rw c.in_ok-push.ensures.items (one_read _ _ _ _ _ _ _ _ _ c.loop-number.invariant here h.read h.contract h.contracts)
+    rw c.in_ok-push.ensures.items (one_read _ _ _ _ _ _ _ _ _ c.loop-number.invariant here h.read h.contract h.contracts h.named)
 
 pub returns-clause-read : goal.returns-clause-read
 returns-clause-read c = all_read _ _ _ _ _ c.loop-number.invariant (at_drop_all (map (λ c. data_in c.value.now)) _ _ c.loop-number-test.false)

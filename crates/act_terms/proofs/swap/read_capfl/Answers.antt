@@ -1,4 +1,4 @@
-use Rattle.std.proofs.Common.{◌≡◌, Err, refl}
+use Rattle.std.proofs.Common.{◌≡◌, Err}
 use Rattle.act_terms.specs.Swap.{capfl_of}
 use Rattle.act_terms.proofs.WithoutWant.{given_up}
 use Rattle.act_terms.proofs.swap.read_capfl.Goals as goal

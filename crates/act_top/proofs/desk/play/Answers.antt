@@ -16,4 +16,4 @@ session-requires-clause-scripts g c = λ κs met.
 pub returns : goal.returns
 returns g c =
     let portfolio = c.in_ok-portfolio.ensures ∙ ap (λ (job : Job). job.portfolio) c.job.view_is in
-    played-of g.A.FromAnswer.kept_of c.args.job.now _ (lines_of c.lists.result.now) c.session.result portfolio c.lists.ensures.lists c.lists.ensures.ready.lines.contracts c.session.ensures.board c.session.ensures.answers
+    played-of g.A.FromAnswer.kept_of c.args.job.now _ (lines_of c.lists.result.now) c.session.result portfolio c.lists.ensures.lists c.lists.ensures.ready c.session.ensures.board c.session.ensures.answers

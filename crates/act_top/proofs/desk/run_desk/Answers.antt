@@ -37,7 +37,7 @@ returns-in_err-write_played g c = λ rows.
     let board = c.in_ok-played.played.board in
     let stop = c.in_err-write_played.field-0.0 in
     ran-halt c.from_residual-in_err-write_played.result (made.Stopped stop) (λ status board. Goes meaning before status board after) c.from_residual-in_err-write_played.ensures.1
-    (goes-part meaning before after stop job (desk_outcome job board) (Some board) c.in_ok-job.ensures.read (desk-is job board (Some board) c.in_ok-played.ensures.played refl) c.in_err-write_played.ensures.text)
+    (goes-part meaning before after stop job (desk_outcome job board) (Some board) c.in_ok-job.ensures.read (desk-is job board (Some board) c.in_ok-played.ensures.runnable c.in_ok-played.ensures.played refl) c.in_err-write_played.ensures.text)
 
 pub returns : goal.returns
 returns g c = λ rows.
@@ -48,5 +48,5 @@ returns g c = λ rows.
     let job = c.in_ok-job.job in
     let board = c.in_ok-played.played.board in
     let ran = c.in_ok-write_played.field-0 in
-    goes-whole meaning before after job (desk_outcome job board) ran.status ran.board c.in_ok-job.ensures.read (desk-is job board ran.board c.in_ok-played.ensures.played c.in_ok-write_played.ensures.run)
+    goes-whole meaning before after job (desk_outcome job board) ran.status ran.board c.in_ok-job.ensures.read (desk-is job board ran.board c.in_ok-played.ensures.runnable c.in_ok-played.ensures.played c.in_ok-write_played.ensures.run)
     c.in_ok-write_played.ensures.status c.in_ok-write_played.ensures.text (omega arith)

@@ -24,7 +24,7 @@ returns-in_err-write g c =
     let stop = c.in_err-write.field-0.0 in
     let job = c.in_ok-job.job in
     let evaluation = c.evaluation_of.result in
-    let is = eval-is job evaluation c.evaluation_of.ensures.portfolio c.evaluation_of.ensures.names c.evaluation_of.ensures.lines in
+    let is = eval-is job evaluation c.evaluation_of.ensures.runnable c.evaluation_of.ensures.portfolio c.evaluation_of.ensures.names c.evaluation_of.ensures.lines in
     passed c.from_residual-in_err-write.result (made.Stopped stop) (λ read. Goes meaning before read None after) c.from_residual-in_err-write.ensures.1
     (goes-part meaning before after stop job (outcome_of evaluation) None c.in_ok-job.ensures.read is c.in_err-write.ensures.text)
 
@@ -35,5 +35,5 @@ returns g c =
     let after : Outside = record { world = g.F.Files.world c.eval_job.new.files; page = g.K.Sink.page c.write.new.out; rows = c.write.new.steps } in
     let job = c.in_ok-job.job in
     let evaluation = c.evaluation_of.result in
-    let is = eval-is job evaluation c.evaluation_of.ensures.portfolio c.evaluation_of.ensures.names c.evaluation_of.ensures.lines in
+    let is = eval-is job evaluation c.evaluation_of.ensures.runnable c.evaluation_of.ensures.portfolio c.evaluation_of.ensures.names c.evaluation_of.ensures.lines in
     goes-whole meaning before after job (outcome_of evaluation) c.in_ok-write.field-0 None c.in_ok-job.ensures.read is c.in_ok-write.ensures.status c.in_ok-write.ensures.text c.in_ok-write.ensures.ticked

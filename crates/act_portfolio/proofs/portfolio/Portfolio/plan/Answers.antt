@@ -5,4 +5,4 @@ use Rattle.act_portfolio.proofs.portfolio.Portfolio.plan.Goals as goal
 
 pub returns-clause-of_terms : goal.returns-clause-of_terms
 returns-clause-of_terms c = λ t here.
-    plan_at _ _ c.self.invariant.accepted.planned c.args.contract t _ (ap (λ p. slice_get p.contracts.terms c.args.contract) c.self.view_is ∙ here) c.index.ensures
+    plan_at _ _ c.self.invariant.accepted.printable.planned c.args.contract t _ (ap (λ p. slice_get p.contracts.terms c.args.contract) c.self.view_is ∙ here) c.index.ensures

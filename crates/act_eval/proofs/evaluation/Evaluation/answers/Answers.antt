@@ -1,7 +1,7 @@
 use Rattle.std.proofs.Common.{None, ◌≡◌, ◌+◌, ◌∷◌, [], List, Bor, drop, take, get_or, length, refl, sym, ap, subst, ◌∙◌, arith}
-use Rattle.act_audit.proofs.Answered.{IsMade, made-append, made-ask, made-few, made-first, made-last, made-quota, made-rest, made-still, no-blocks}
-use Rattle.act_audit.proofs.answers.answers_in_order.Goals as goal
-use Rattle.act_audit.proofs.answers.answers_in_order.Goals.{After-loop-step, In-loop-step, in-Append+in_ok-append-in-Append, in-Ask+in_ok-answer-in-Ask+in_ok-push-in-Ask}
+use Rattle.act_eval.proofs.Answered.{IsMade, made-append, made-ask, made-few, made-first, made-last, made-quota, made-rest, made-still, no-blocks}
+use Rattle.act_eval.proofs.evaluation.Evaluation.answers.Goals as goal
+use Rattle.act_eval.proofs.evaluation.Evaluation.answers.Goals.{After-loop-step, In-loop-step, in-Append+in_ok-append-in-Append, in-Ask+in_ok-answer-in-Ask+in_ok-push-in-Ask}
 use Rattle.act_engine.proofs.Lists.{drop-next, drop-past}
 use Rattle.act_eval.specs.Driven.{IsAtRest, next_ask}
 use Rattle.act_eval.specs.Evaluation.{Evaluation}
@@ -19,29 +19,29 @@ use Rattle.act_transcript.specs.KnownLines.{AreBlocksOf}
 use Rattle.act_transcript.specs.declared.blocks.Blocks.{Blocks}
 
 -- the contracts are those of the portfolio
-contracts-are : (g : _) (c : In-loop-step g) → c.args.evaluation.now.names.contracts ≡ c.args.evaluation.now.portfolio.names.contracts
-contracts-are g c = sym (ap (λ (v : Evaluation). v.names.contracts) c.evaluation.view_is) ∙ (c.evaluation.invariant.contracts ∙ ap (λ (v : Evaluation). v.portfolio.names.contracts) c.evaluation.view_is)
+contracts-are : (g : _) (c : In-loop-step g) → c.args.self.now.names.contracts ≡ c.args.self.now.portfolio.names.contracts
+contracts-are g c = sym (ap (λ (v : Evaluation). v.names.contracts) c.self.view_is) ∙ (c.self.invariant.contracts ∙ ap (λ (v : Evaluation). v.portfolio.names.contracts) c.self.view_is)
 
 -- what is made where this line is the next one
-made-line : (g : _) (c : In-loop-step g) (line : Line) → line ≡ get_or c.evaluation.inside.lines.now c.loop-step.step-index line
-    → IsMade c.args.evaluation.now.portfolio c.args.evaluation.now.names c.args.evaluation.now.lines (line ∷ drop (c.loop-step.step-index + 1) c.args.evaluation.now.lines) c.loop-step.driver.board c.loop-step.answers.items c.args.steps.now c.loop-step.steps
+made-line : (g : _) (c : In-loop-step g) (line : Line) → line ≡ get_or c.self.inside.lines.now c.loop-step.step-index line
+    → IsMade c.args.self.now.portfolio c.args.self.now.names c.args.self.now.lines (line ∷ drop (c.loop-step.step-index + 1) c.args.self.now.lines) c.loop-step.driver.board c.loop-step.answers.items c.args.steps.now c.loop-step.steps
 made-line g c line is =
-    let e = c.args.evaluation.now in
-    let here = drop-next c.evaluation.inside.lines.now c.loop-step.step-index line c.loop-step-test.true is in
-    subst (λ (ls : List Line). IsMade e.portfolio e.names e.lines ls c.loop-step.driver.board c.loop-step.answers.items c.args.steps.now c.loop-step.steps) (rw (ap (λ (v : Evaluation). v.lines) c.evaluation.view_is) at here) c.loop-step.invariant.made
+    let e = c.args.self.now in
+    let here = drop-next c.self.inside.lines.now c.loop-step.step-index line c.loop-step-test.true is in
+    subst (λ (ls : List Line). IsMade e.portfolio e.names e.lines ls c.loop-step.driver.board c.loop-step.answers.items c.args.steps.now c.loop-step.steps) (rw (ap (λ (v : Evaluation). v.lines) c.self.view_is) at here) c.loop-step.invariant.made
 
 -- and where none is left
 made-none : (g : _) (c : After-loop-step g)
-    → IsMade c.args.evaluation.now.portfolio c.args.evaluation.now.names c.args.evaluation.now.lines [] c.loop-step.driver.board c.loop-step.answers.items c.args.steps.now c.loop-step.steps
+    → IsMade c.args.self.now.portfolio c.args.self.now.names c.args.self.now.lines [] c.loop-step.driver.board c.loop-step.answers.items c.args.steps.now c.loop-step.steps
 made-none g c =
-    let e = c.args.evaluation.now in
-    let past = drop-past e.lines c.loop-step.step-index (omega (arith, c.loop-step-test.false, ap (λ (v : Evaluation). length v.lines) c.evaluation.view_is)) in
+    let e = c.args.self.now in
+    let past = drop-past e.lines c.loop-step.step-index (omega (arith, c.loop-step-test.false, ap (λ (v : Evaluation). length v.lines) c.self.view_is)) in
     subst (λ (ls : List Line). IsMade e.portfolio e.names e.lines ls c.loop-step.driver.board c.loop-step.answers.items c.args.steps.now c.loop-step.steps) past c.loop-step.invariant.made
 
 pub loop-step-init : goal.loop-step-init
 loop-step-init g c =
-    let e = c.args.evaluation.now in
-    let light : too_much_asked e.portfolio (e.lines ∷ []) ≡ None = sym (ap (λ (v : Evaluation). too_much_asked v.portfolio (v.lines ∷ [])) c.evaluation.view_is) ∙ c.evaluation.invariant.light in
+    let e = c.args.self.now in
+    let light : too_much_asked e.portfolio (e.lines ∷ []) ≡ None = sym (ap (λ (v : Evaluation). too_much_asked v.portfolio (v.lines ∷ [])) c.self.view_is) ∙ c.self.invariant.light in
     let first = made-first e.portfolio e.names e.lines c.args.steps.now light in
     let board = subst (λ (h : History). IsMade e.portfolio e.names e.lines e.lines h [] c.args.steps.now c.args.steps.now) (sym c.in_ok-driver.ensures.board) first in
     record {
@@ -66,7 +66,7 @@ answer-requires-clause-few g c =
 
 pub answer-requires-clause-known : goal.answer-requires-clause-known
 answer-requires-clause-known g c =
-    line-known _ _ _ _ c.step-item.result _ c.evaluation.view_is c.evaluation.invariant.contracts c.evaluation.invariant.known c.loop-step-test.true c.step-item.is c.in-Ask.is c.loop-step.invariant.portfolio
+    line-known _ _ _ _ c.step-item.result _ c.self.view_is c.self.invariant.contracts c.self.invariant.known c.loop-step-test.true c.step-item.is c.in-Ask.is c.loop-step.invariant.portfolio
 
 pub loop-step-preserved : goal.loop-step-preserved
 loop-step-preserved g c =

@@ -1,0 +1,13 @@
+pub mod Parts
+pub mod Operations
+pub mod Planned
+pub mod Children
+pub mod Days
+pub mod Currencies
+pub mod Codes
+pub mod Stopped
+pub mod States
+pub mod LoanAmounts
+pub mod KindAmounts
+pub mod Amounts
+pub mod Runs
