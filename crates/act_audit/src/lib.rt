@@ -19,7 +19,7 @@ mod words;
 pub use laws::{
     audits_end_as_told, right_texts_count_as_eval, statuses_tell_faults, verdicts_are_told,
 };
-pub use top::audit_top;
+pub use top::{Audited, audit_top};
 pub use verdict::{
     Verdict, no_two_verdicts_are_both_so, right_texts_are_of_the_scripts,
     right_texts_have_one_journal,

@@ -10,11 +10,11 @@ ghost use Rattle.act_transcript.specs.Text.{items_of, output_of};
 use crate::answers::by_caller;
 use crate::journal::is_of_one_caller;
 use crate::sheet::Sheet;
-use act_engine::{Failure, Status};
+use act_engine::Failure;
 use act_eval::Evaluation;
 use act_model::Item;
 use act_num::Steps;
-use act_transcript::{Blocks, answer_count, write_answers, write_heads};
+use act_transcript::{Blocks, Stops, answer_count, write_answers, write_heads};
 use std::alloc::Global;
 use std::sync::ledger::Ledger;
 
@@ -48,7 +48,7 @@ fn write_alone<L: Ledger>(
     with_work: bool,
     sheet: &mut Sheet<'_>,
     steps: &mut Steps<L>,
-) -> Result<Status, Failure>
+) -> Result<Stops, Failure>
     ensures text { Writes (if with_work then eval_text evaluation.now.portfolio evaluation.now.names (items_of evaluation.now.lines)
         else output_of evaluation.now.portfolio evaluation.now.names (items_of evaluation.now.lines))
         (record { written = Some sheet.old; faults = 0 }) result (record { written = Some sheet.new; faults = 0 }) }

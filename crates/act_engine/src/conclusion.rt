@@ -13,12 +13,12 @@ use act_io::Sink;
 use std::alloc::Global;
 
 /// Ends a command that stopped: writes the line of a refusal, that of words being the usage line, and answers the status.
-pub fn conclude<K: Sink>(alloc: Global, out: &mut K, usage: &[u8], halt: Halt<'_>) -> Status
-    ensures { Concludes usage.now (halt_of halt.entry) (K.page out.old) result (K.page out.new) }
+pub fn conclude<K: Sink>(alloc: Global, out: &mut K, usage: &[u8], halt: &Halt<'_>) -> Status
+    ensures { Concludes usage.now (halt_of halt.now) (K.page out.old) result (K.page out.new) }
 {
     match halt {
-        Halt::Refused(refusal) => status_of(write_refusal(alloc, out, usage, &refusal)),
-        Halt::Stopped(stop) => status_of(Err(stop)),
+        Halt::Refused(refusal) => status_of(write_refusal(alloc, out, usage, refusal)),
+        Halt::Stopped(stop) => status_of(Err(*stop)),
     }
 }
 

@@ -1,5 +1,5 @@
 //! A board that one caller has to itself, driven by one thread: the caller's steps, and the evaluations that it asks for.
-ghost use Rattle.std.specs.Prelude.{◌≡◌, ◌+◌, ◌<◌, ◌≤◌, ℕ, List, [], ◌∷◌, false, length, take, true, IfErr, IfOk, OnOk};
+ghost use Rattle.std.specs.Prelude.{◌≡◌, ◌&&◌, ◌+◌, ◌<◌, ◌≤◌, ℕ, List, [], ◌∷◌, false, length, take, true, IfErr, IfOk, OnOk};
 ghost use Rattle.std.specs.Arc.{arc_value};
 ghost use Rattle.std.specs.List.{All};
 ghost use Rattle.act_engine.specs.Writing.{Writes};
@@ -19,7 +19,7 @@ ghost use Rattle.act_print.specs.Printed.{printed_answer};
 ghost use Rattle.act_print.specs.Text.{answer_text};
 ghost use Rattle.act_profile.specs.Answers.{answer_to};
 ghost use Rattle.act_profile.specs.DayOrder.{AreInDayOrder};
-ghost use Rattle.act_transcript.specs.Ends.{ends_well};
+ghost use Rattle.act_transcript.specs.Ends.{are_none, ends_well};
 ghost use Rattle.act_transcript.specs.KnownLines.{AreBlocksOf, AreOnesOf, IsKnown, IsPut, IsReplyOn};
 ghost use Rattle.act_text.specs.Kept.{AreWrittenWith};
 ghost use Rattle.act_transcript.specs.Text.{items_of};
@@ -31,7 +31,7 @@ use act_io::Sink;
 use act_model::{Answer, Asked, Obs, Run};
 use act_num::{NoMemory, Steps};
 use act_portfolio::Portfolio;
-use act_transcript::{Blocks, ends_well};
+use act_transcript::{Blocks, Stops};
 use std::alloc::Global;
 use std::sync::Arc;
 use std::sync::ledger::Ledger;
@@ -132,15 +132,15 @@ impl<'a> Driver<'a> {
         self.collect()
     }
 
-    /// The caller, all of whose asks are answered, asks, and the answer is written. It answers whether each of its blocks ends in
-    /// `end`.
+    /// The caller, all of whose asks are answered, asks, and the answer is written. Those of its blocks that stop are added to others.
     pub(crate) fn write_answer<K: Sink, L: Ledger>(
         &mut self,
         alloc: Global,
         out: &mut K,
         asked: Asked,
         steps: &mut Steps<L>,
-    ) -> Result<bool, Failure>
+        stops: &mut Stops,
+    ) -> Result<(), Failure>
         requires rest { IsAtRest self.old.portfolio.now self.old.board }
         requires few { length (asks_by self.old.board CALLER) < most_asks }
         requires known { is_known self.old.portfolio.now.names (step.Ask asked) ≡ true }
@@ -148,7 +148,7 @@ impl<'a> Driver<'a> {
         requires blocks { AreBlocksOf self.old.board self.old.blocks }
         ensures text { Writes (answer_text self.old.blocks.names.now (printed_answer (next_answer self.old.portfolio.now self.old.board asked)))
             (K.page out.old) result (K.page out.new) }
-        ensures ended { IfOk result (λ ended. ended ≡ ends_well (next_answer self.old.portfolio.now self.old.board asked)) }
+        ensures stops { IfOk result (λ _. are_none stops.new ≡ (are_none stops.old && ends_well (next_answer self.old.portfolio.now self.old.board asked))) }
         ensures rest { IfOk result (λ _. IsAtRest self.old.portfolio.now self.new.board) }
         ensures asked { IfOk result (λ _. Adds asked self.old.board self.new.board) }
         ensures ticked { IfOk result (λ _. (book : List Obs) → take (version_of self.old.board) book ≡ entries_of self.old.board →
@@ -160,10 +160,9 @@ impl<'a> Driver<'a> {
     {
         let answer = self.answer(alloc, asked, steps)?;
         let written = self.write(out, &answer);
-        let ended = ends_well(&answer);
+        stops.add(&answer);
         drop(answer);
-        written?;
-        Ok(ended)
+        written
     }
 
     /// Writes an answer that was given last, of the board's version.

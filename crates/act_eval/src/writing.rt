@@ -7,43 +7,43 @@ ghost use Rattle.act_eval.specs.Work.{work_of};
 ghost use Rattle.act_model.specs.Journal.{book_of, is_append};
 ghost use Rattle.act_model.specs.declared.journal.Line.{Line as StepLine};
 ghost use Rattle.act_profile.specs.Answers.{answers_of};
-ghost use Rattle.act_transcript.specs.Ends.{ends_well};
+ghost use Rattle.act_transcript.specs.Ends.{are_none, ends_well, stops_status};
 ghost use Rattle.act_transcript.specs.KnownLines.{AreBlocksOf};
 ghost use Rattle.act_transcript.specs.Text.{answers_text, items_of, output_of};
 
 use crate::driving::Driver;
 use crate::evaluation::Evaluation;
-use act_engine::{Failure, Status, write_number};
+use act_engine::{Failure, write_number};
 use act_io::Sink;
 use act_model::{Line, Step};
 use act_num::Steps;
-use act_transcript::{Blocks, answers_status, write_heads};
+use act_transcript::{Blocks, Stops, write_heads};
 use std::alloc::Global;
 use std::sync::ledger::Ledger;
 
-/// What was written of answers: whether each of their blocks ends in `end`, and how many rows were computed for them.
+/// What was written of answers: which of their blocks stop, and how many rows were computed for them.
 #[derive(Clone, Copy)]
 struct Wrote {
-    ended: bool,
+    stops: Stops,
     work: u64,
 }
 
 impl Evaluation<'_> {
-    /// Writes the journal of the script, its answers and the line of its work, and answers the status that it ends with.
+    /// Writes the journal of the script, its answers and the line of its work, and answers which of their blocks stop.
     pub fn write<K: Sink, L: Ledger>(
         &self,
         alloc: Global,
         out: &mut K,
         steps: &mut Steps<L>,
-    ) -> Result<Status, Failure>
+    ) -> Result<Stops, Failure>
         ensures text { Writes (evaluation_outcome self.now).text (K.page out.old) result (K.page out.new) }
-        ensures status { IfOk result (λ status. status ≡ (evaluation_outcome self.now).status) }
+        ensures status { IfOk result (λ stops. stops_status stops ≡ (evaluation_outcome self.now).status) }
         ensures ticked { IfOk result (λ _. steps.new ≡ steps.old + (evaluation_outcome self.now).rows) }
     {
         let mut line = Vec::new(alloc);
         let wrote = self.write_answered(alloc, out, &mut line, steps)?;
         write_number(out, &mut line, b"work", u128::from(wrote.work))?;
-        Ok(answers_status(wrote.ended))
+        Ok(wrote.stops)
     }
 
     /// The same without the line of work.
@@ -52,13 +52,13 @@ impl Evaluation<'_> {
         alloc: Global,
         out: &mut K,
         steps: &mut Steps<L>,
-    ) -> Result<Status, Failure>
+    ) -> Result<Stops, Failure>
         ensures text { Writes (output_of self.now.portfolio self.now.names (items_of self.now.lines)) (K.page out.old) result (K.page out.new) }
-        ensures status { IfOk result (λ status. status ≡ (evaluation_outcome self.now).status) }
+        ensures status { IfOk result (λ stops. stops_status stops ≡ (evaluation_outcome self.now).status) }
         ensures ticked { IfOk result (λ _. steps.new ≡ steps.old + work_of self.now.portfolio (items_of self.now.lines)) }
     {
         let wrote = self.write_answered(alloc, out, &mut Vec::new(alloc), steps)?;
-        Ok(answers_status(wrote.ended))
+        Ok(wrote.stops)
     }
 
     /// Writes the journal of the script and its answers. `line` is room for a line.
@@ -70,7 +70,7 @@ impl Evaluation<'_> {
         steps: &mut Steps<L>,
     ) -> Result<Wrote, Failure>
         ensures text { Writes (output_of self.now.portfolio self.now.names (items_of self.now.lines)) (K.page out.old) result (K.page out.new) }
-        ensures ended { IfOk result (λ wrote. wrote.ended
+        ensures stops { IfOk result (λ wrote. are_none wrote.stops
             ≡ list_all ends_well (answers_of self.now.portfolio.contracts self.now.names (items_of self.now.lines))) }
         ensures ticked { IfOk result (λ _. steps.new ≡ steps.old + work_of self.now.portfolio (items_of self.now.lines)) }
         ensures counted { IfOk result (λ wrote. wrote.work + steps.old ≡ steps.new) }
@@ -102,20 +102,22 @@ impl Evaluation<'_> {
         requires names { driver.old.blocks.names.now ≡ self.now.names }
         requires work { driver.old.work ≡ 0 }
         ensures text { Writes (answers_text self.now.names (answers_of self.now.portfolio.contracts self.now.names (items_of self.now.lines))) (K.page out.old) result (K.page out.new) }
-        ensures ended { IfOk result (λ wrote. wrote.ended
+        ensures stops { IfOk result (λ wrote. are_none wrote.stops
             ≡ list_all ends_well (answers_of self.now.portfolio.contracts self.now.names (items_of self.now.lines))) }
         ensures ticked { IfOk result (λ _. steps.new ≡ steps.old + work_of self.now.portfolio (items_of self.now.lines)) }
         ensures counted { IfOk result (λ wrote. wrote.work + steps.old ≡ steps.new) }
     {
-        let mut ended = true;
+        let mut stops = Stops::NONE;
         for step in self.lines {
             match step.step {
                 Step::Append(entry) => driver.append(entry)?,
-                Step::Ask(asked) => ended &= driver.write_answer(alloc, out, asked, steps)?,
+                Step::Ask(asked) => {
+                    driver.write_answer(alloc, out, asked, steps, &mut stops)?;
+                }
             }
         }
         Ok(Wrote {
-            ended,
+            stops,
             work: driver.work,
         })
     }

@@ -2,7 +2,7 @@
 use Rattle.std.proofs.Common.{◌≡◌, Option, None, Result, Ok, Err, sym, subst}
 use Rattle.std.specs.Result.{IsErrAnd}
 use Rattle.act_engine.specs.Ending.{Concludes, Ends, Goes, Meaning, Outside}
-use Rattle.act_engine.specs.Reading.{Halt, halt_of, read_of}
+use Rattle.act_engine.specs.Reading.{Halt, halt_of}
 use Rattle.act_engine.specs.declared.halt.Halt.{Halt as HaltMade}
 use Rattle.act_engine.specs.declared.status.Status.{Status}
 use Rattle.act_engine.proofs.Ending.{ends-halt, ends-whole, with_page}
@@ -17,17 +17,21 @@ pub ran-halt : (r : Result Ran HaltMade) (halt : HaltMade) (P : Result Status Ha
 ran-halt (Ok ran) halt P is so = absurd is
 ran-halt (Err h) halt P is so = subst (λ (g : HaltMade). P (Err (halt_of g)) None) (sym is) so
 
+-- the same where it hands out no board
+pub alone-stops : (r : Result Ran HaltMade) (halt : HaltMade) (P : Result Status Halt → Type 0) → IsErrAnd r (λ h. h ≡ halt) → P (Err (halt_of halt)) → P (status_told r)
+alone-stops r halt P = ran-halt r halt (λ status board. P status)
+
 -- ---- at the end
 
 module _ {A : Type 0} (meaning : Meaning A History) (before after : Outside) where
   -- a command of one thread that wrote its text
-  pub alone-whole : (made : Result Status HaltMade) (status : Status) → made ≡ Ok status → Goes meaning before (read_of made) None after → Ends meaning usage before status None after
-  alone-whole made status is goes = ends-whole meaning usage before status None after (subst (λ (r : Result Status HaltMade). Goes meaning before (read_of r) None after) is goes)
+  pub alone-whole : (made : Result Ran HaltMade) (ran : Ran) → made ≡ Ok ran → Goes meaning before (status_told made) None after → Ends meaning usage before ran.status None after
+  alone-whole made ran is goes = ends-whole meaning usage before ran.status None after (subst (λ (r : Result Ran HaltMade). Goes meaning before (status_told r) None after) is goes)
 
   -- and one that stopped
-  pub alone-halt : (made : Result Status HaltMade) (halt : HaltMade) (status : Status) (page : Page) → made ≡ Err halt → Goes meaning before (read_of made) None after → Concludes usage (halt_of halt) after.page status page
+  pub alone-halt : (made : Result Ran HaltMade) (halt : HaltMade) (status : Status) (page : Page) → made ≡ Err halt → Goes meaning before (status_told made) None after → Concludes usage (halt_of halt) after.page status page
       → Ends meaning usage before status None (with_page after page)
-  alone-halt made halt status page is goes said = ends-halt meaning usage before (halt_of halt) status after page (subst (λ (r : Result Status HaltMade). Goes meaning before (read_of r) None after) is goes) said
+  alone-halt made halt status page is goes said = ends-halt meaning usage before (halt_of halt) status after page (subst (λ (r : Result Ran HaltMade). Goes meaning before (status_told r) None after) is goes) said
 
   -- a run that wrote its text
   pub run-whole : (made : Result Ran HaltMade) (ran : Ran) → made ≡ Ok ran → Goes meaning before (status_told made) (board_of made) after → Ends meaning usage before ran.status ran.board after

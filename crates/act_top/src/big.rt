@@ -18,7 +18,7 @@ ghost use Rattle.act_top.specs.Totals.{answer_totals, totals_text};
 ghost use Rattle.act_top.specs.Words.{most_size};
 
 use crate::desk::play;
-use crate::ran::Ran;
+use crate::ran::{Aside, Ran};
 use crate::totals::{Totals, write_totals};
 use act_desk::Context;
 use act_engine::{Failure, Halt, Status};
@@ -37,7 +37,7 @@ pub(crate) fn run_big<R: Threads + Wait + Sync, K: Sink, G: Gate>(
     out: &mut K,
     size: u32,
     workers: u32,
-) -> Result<Ran, Halt<'static>>
+) -> Result<Ran<'static>, Halt<'static>>
     requires some { 1 ≤ size }
     requires few { size ≤ most_size }
     requires workers { workers ≤ most_workers }
@@ -89,7 +89,7 @@ fn write_played<K: Sink>(
     size: u32,
     job: &Job,
     played: Session<Totals>,
-) -> Result<Ran, Failure>
+) -> Result<Ran<'static>, Failure>
     requires { IsPlayOf answer_totals job.now played }
     ensures ran { IfOk result (λ ran. (ran.status ≡ Done) × (ran.board ≡ Some played.board)) }
     ensures text { Writes (totals_text size (length job.now.portfolio.names.contracts)
@@ -102,6 +102,7 @@ fn write_played<K: Sink>(
         Ok(()) => Ok(Ran {
             status: Status::Done,
             board: Some(board),
+            aside: Aside::Nothing,
         }),
         Err(stop) => {
             drop(board);

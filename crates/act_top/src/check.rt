@@ -1,14 +1,15 @@
 //! The command `check`.
-ghost use Rattle.std.specs.Prelude.{◌≡◌, ℕ, ◌++◌, None, length, map, string_bytes};
+ghost use Rattle.std.specs.Prelude.{◌≡◌, ℕ, ◌++◌, None, length, map, string_bytes, IfOk};
 ghost use Rattle.std.specs.List.{flat_map, list_all};
 ghost use Rattle.act_engine.specs.Ending.{Goes};
-ghost use Rattle.act_engine.specs.Reading.{read_of};
 ghost use Rattle.act_engine.specs.Writing.{Writes};
 ghost use Rattle.act_model.specs.Name.{has_form, is_graphic};
 ghost use Rattle.act_model.specs.Kind.{type_of};
 ghost use Rattle.act_model.specs.Kind.{type_name};
 ghost use Rattle.act_top.specs.Check.{check_meaning, check_text, contract_line, contracts_text, count_line, shown_name, unused_line};
+ghost use Rattle.act_top.specs.Ran.{status_told};
 
+use crate::ran::{Aside, Ran};
 use act_engine::{Failure, Halt, Status, write_line};
 use act_io::{Files, Sink};
 use act_job::read_portfolio;
@@ -24,13 +25,18 @@ pub(crate) fn run_check<'a, F: Files, K: Sink>(
     files: &mut F,
     out: &mut K,
     portfolio: &'a str,
-) -> Result<Status, Halt<'a>>
-    ensures { (rows : ℕ) → Goes (check_meaning portfolio.now) (record { world = F.world files.old; page = K.page out.old; rows = rows })
-        (read_of result) None (record { world = F.world files.new; page = K.page out.new; rows = rows }) }
+) -> Result<Ran<'a>, Halt<'a>>
+    ensures gone { (rows : ℕ) → Goes (check_meaning portfolio.now) (record { world = F.world files.old; page = K.page out.old; rows = rows })
+        (status_told result) None (record { world = F.world files.new; page = K.page out.new; rows = rows }) }
+    ensures board { IfOk result (λ ran. ran.board ≡ None) }
 {
     let portfolio = read_portfolio(alloc, files, portfolio)?;
     write_check(alloc, out, &portfolio)?;
-    Ok(Status::Done)
+    Ok(Ran {
+        status: Status::Done,
+        board: None,
+        aside: Aside::Nothing,
+    })
 }
 
 /// Writes how many contracts of a portfolio have a name, and each of them.

@@ -11,7 +11,7 @@ ghost use Rattle.act_profile.specs.Answers.{answers_of};
 ghost use Rattle.act_transcript.specs.Ends.{answers_status};
 ghost use Rattle.act_transcript.specs.Text.{output_of};
 
-use crate::ran::Ran;
+use crate::ran::{Aside, Ran};
 use act_board::Board;
 use act_desk::{Context, FromAnswer};
 use act_engine::{Failure, Halt};
@@ -20,9 +20,7 @@ use act_job::Job;
 use act_model::Answer;
 use act_num::NoMemory;
 use act_session::{Session, session};
-use act_transcript::{
-    Blocks, all_end_well, answer_count, answers_status, write_answers, write_heads,
-};
+use act_transcript::{Blocks, answer_count, stops_of, write_answers, write_heads};
 use std::alloc::Global;
 use std::sync::{Arc, Wait};
 use std::thread::Threads;
@@ -44,7 +42,7 @@ pub(crate) fn run_desk<'a, R: Threads + Wait + Sync, F: Files, K: Sink, G: Gate>
     files: &mut F,
     out: &mut K,
     desk: DeskWords<'a>,
-) -> Result<Ran, Halt<'a>>
+) -> Result<Ran<'a>, Halt<'a>>
     requires workers { desk.workers ≤ most_workers }
     requires some { 1 ≤ length desk.scripts.now }
     requires few { length desk.scripts.now ≤ most_callers }
@@ -55,7 +53,7 @@ pub(crate) fn run_desk<'a, R: Threads + Wait + Sync, F: Files, K: Sink, G: Gate>
     let alloc = context.alloc;
     let job = Job::read(alloc, files, desk.workers, desk.portfolio, desk.scripts)?;
     let played = play(context, &job)?;
-    Ok(write_played(alloc, out, &job, played)?)
+    Ok(write_played(alloc, out, job, played)?)
 }
 
 /// What callers and workers play of a job, with what is kept of the answers.
@@ -74,24 +72,26 @@ pub(crate) fn play<R: Threads + Wait + Sync, G: Gate, A: FromAnswer>(
 fn write_played<K: Sink>(
     alloc: Global,
     out: &mut K,
-    job: &Job,
+    job: Job,
     played: Session<Answer>,
-) -> Result<Ran, Failure>
-    requires { IsPlayOf (λ answer. answer) job.now played }
+) -> Result<Ran<'static>, Failure>
+    requires { IsPlayOf (λ answer. answer) job played }
     ensures run { IfOk result (λ ran. ran.board ≡ Some played.board) }
-    ensures text { Writes (output_of job.now.portfolio job.now.scripts.names (journal_of played.board)) (K.page out.old) result (K.page out.new) }
-    ensures status { IfOk result (λ ran. ran.status ≡ answers_status (answers_of job.now.portfolio.contracts job.now.scripts.names (journal_of played.board))) }
+    ensures text { Writes (output_of job.portfolio job.scripts.names (journal_of played.board)) (K.page out.old) result (K.page out.new) }
+    ensures status { IfOk result (λ ran. ran.status ≡ answers_status (answers_of job.portfolio.contracts job.scripts.names (journal_of played.board))) }
 {
     let Session { mut board, answers } = played;
-    let written = write_run(alloc, out, job, &mut board, &answers);
-    let ended = all_end_well(&answers);
+    let written = write_run(alloc, out, &job, &mut board, &answers);
+    let stops = stops_of(&answers);
     drop(answers);
     match written {
         Ok(()) => Ok(Ran {
-            status: answers_status(ended),
+            status: stops.status(),
             board: Some(board),
+            aside: Aside::Written { job, stops },
         }),
         Err(stop) => {
+            drop(job);
             drop(board);
             Err(stop)
         }

@@ -5,8 +5,10 @@ ghost use Rattle.act_engine.specs.Reading.{Reads, read_of};
 ghost use Rattle.act_job.specs.Job.{IsRunnable};
 ghost use Rattle.act_model.specs.declared.journal.Line.{Line};
 ghost use Rattle.act_top.specs.Eval.{eval_meaning, eval_reading};
+ghost use Rattle.act_top.specs.Ran.{status_told};
 
-use act_engine::{Halt, Status};
+use crate::ran::{Aside, Ran};
+use act_engine::Halt;
 use act_eval::Evaluation;
 use act_io::{Files, Sink};
 use act_job::{Job, Scripts, read_portfolio};
@@ -24,13 +26,19 @@ pub(crate) fn run_eval<'a, F: Files, K: Sink, L: Ledger>(
     portfolio: &'a str,
     scripts: &'a [String],
     steps: &mut Steps<L>,
-) -> Result<Status, Halt<'a>>
+) -> Result<Ran<'a>, Halt<'a>>
     requires { length scripts.now ≤ 1 }
-    ensures { Goes (eval_meaning portfolio.now (map string_bytes scripts.now)) (record { world = F.world files.old; page = K.page out.old; rows = steps.old })
-        (read_of result) None (record { world = F.world files.new; page = K.page out.new; rows = steps.new }) }
+    ensures gone { Goes (eval_meaning portfolio.now (map string_bytes scripts.now)) (record { world = F.world files.old; page = K.page out.old; rows = steps.old })
+        (status_told result) None (record { world = F.world files.new; page = K.page out.new; rows = steps.new }) }
+    ensures board { IfOk result (λ ran. ran.board ≡ None) }
 {
     let job = eval_job(alloc, files, portfolio, scripts)?;
-    Ok(evaluation_of(&job).write(alloc, out, steps)?)
+    let stops = evaluation_of(&job).write(alloc, out, steps)?;
+    Ok(Ran {
+        status: stops.status(),
+        board: None,
+        aside: Aside::Written { job, stops },
+    })
 }
 
 /// What is to be evaluated.

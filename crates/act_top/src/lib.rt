@@ -16,5 +16,5 @@ pub use laws::{
     scripts_in_turn_are_an_interleaving, statuses_tell_faults, texts_are_read_back,
     texts_have_one_journal, versions_never_go_back,
 };
-pub use ran::Ran;
+pub use ran::{Aside, Ran};
 pub use top::{actus_top, desk_top, eval_top};

@@ -1,7 +1,7 @@
 //! The commands, by their words.
-ghost use Rattle.std.specs.Prelude.{◌≡◌, ℕ, None, Some, map, string_bytes, IfSome};
-ghost use Rattle.act_engine.specs.Ending.{Ends, words_meaning};
-ghost use Rattle.act_engine.specs.Reading.{read_of};
+ghost use Rattle.std.specs.Prelude.{◌≡◌, ℕ, None, Some, map, string_bytes, IfOk, IfSome};
+ghost use Rattle.act_engine.specs.Ending.{Concludes, Ends, words_meaning};
+ghost use Rattle.act_engine.specs.Reading.{halt_of};
 ghost use Rattle.act_io.specs.World.{World};
 ghost use Rattle.act_history.specs.History.{History};
 ghost use Rattle.act_top.specs.Commands.{EndsAs, GoesAs, alone, threaded};
@@ -12,7 +12,7 @@ use crate::big::run_big;
 use crate::check::run_check;
 use crate::desk::run_desk;
 use crate::eval::run_eval;
-use crate::ran::Ran;
+use crate::ran::{Aside, Ran};
 use crate::words::{AloneCommand, Command, ThreadedCommand, USAGE};
 use act_desk::Context;
 use act_engine::{Halt, Refusal, Status, conclude};
@@ -25,27 +25,21 @@ use std::thread::Threads;
 
 /// Runs the command of the words over the files, and writes its text, or a line that says why it is refused: those of `eval_top` and
 /// those of `desk_top`.
-pub fn actus_top<R: Threads + Wait + Sync, F: Files, K: Sink, G: Gate, L: Ledger>(
+pub fn actus_top<'a, R: Threads + Wait + Sync, F: Files, K: Sink, G: Gate, L: Ledger>(
     context: &Context<'_, R, G>,
-    words: &[String],
+    words: &'a [String],
     files: &mut F,
     out: &mut K,
     steps: &mut Steps<L>,
-) -> Ran
+) -> Ran<'a>
     ensures ended { EndsAs (command_of (map string_bytes words.now)) (record { world = F.world files.old; page = K.page out.old; rows = steps.old })
         result.status result.board (record { world = F.world files.new; page = K.page out.new; rows = steps.new }) }
     ensures steps { IfSome (threaded (command_of (map string_bytes words.now))) (λ _. steps.new ≡ steps.old) }
 {
     match Command::of(words) {
         Some(Command::Threaded(command)) => run_threaded(context, command, files, out),
-        Some(Command::Alone(command)) => Ran {
-            status: run_alone(context.alloc, command, files, out, steps),
-            board: None,
-        },
-        None => Ran {
-            status: refuse(context.alloc, out),
-            board: None,
-        },
+        Some(Command::Alone(command)) => run_alone(context.alloc, command, files, out, steps),
+        None => refuse(context.alloc, out),
     }
 }
 
@@ -68,9 +62,9 @@ pub fn eval_top<F: Files, K: Sink, L: Ledger>(
         result None (record { world = F.world files.new; page = K.page out.new; rows = steps.new }) }
 {
     match Command::of(words) {
-        Some(Command::Alone(command)) => run_alone(alloc, command, files, out, steps),
-        Some(Command::Threaded(_)) => refuse(alloc, out),
-        None => refuse(alloc, out),
+        Some(Command::Alone(command)) => run_alone(alloc, command, files, out, steps).status,
+        Some(Command::Threaded(_)) => refuse(alloc, out).status,
+        None => refuse(alloc, out).status,
     }
 }
 
@@ -85,51 +79,60 @@ pub fn eval_top<F: Files, K: Sink, L: Ledger>(
 /// with no file, and five lines are written: `big N`, how many contracts have a name, how many asks there are, how many rows their
 /// answers have, and the sum of these rows' payoffs, in units of 10^-9 modulo 2^64. All other words end with `Status::Words` and the
 /// usage line.
-pub fn desk_top<R: Threads + Wait + Sync, F: Files, K: Sink, G: Gate>(
+pub fn desk_top<'a, R: Threads + Wait + Sync, F: Files, K: Sink, G: Gate>(
     context: &Context<'_, R, G>,
-    words: &[String],
+    words: &'a [String],
     files: &mut F,
     out: &mut K,
-) -> Ran
+) -> Ran<'a>
     ensures { (rows : ℕ) → EndsAs (threaded (command_of (map string_bytes words.now))) (record { world = F.world files.old; page = K.page out.old; rows = rows })
         result.status result.board (record { world = F.world files.new; page = K.page out.new; rows = rows }) }
 {
     match Command::of(words) {
         Some(Command::Threaded(command)) => run_threaded(context, command, files, out),
-        Some(Command::Alone(_)) => Ran {
-            status: refuse(context.alloc, out),
-            board: None,
-        },
-        None => Ran {
-            status: refuse(context.alloc, out),
-            board: None,
-        },
+        Some(Command::Alone(_)) => refuse(context.alloc, out),
+        None => refuse(context.alloc, out),
     }
 }
 
 /// Refuses words of no form: writes the usage line.
-fn refuse<K: Sink>(alloc: Global, out: &mut K) -> Status
-    ensures { (world : World) (rows : ℕ) → Ends {B = History} words_meaning usage (record { world = world; page = K.page out.old; rows = rows })
-        result None (record { world = world; page = K.page out.new; rows = rows }) }
+fn refuse<K: Sink>(alloc: Global, out: &mut K) -> Ran<'static>
+    ensures ended { (world : World) (rows : ℕ) → Ends {B = History} words_meaning usage (record { world = world; page = K.page out.old; rows = rows })
+        result.status None (record { world = world; page = K.page out.new; rows = rows }) }
+    ensures board { result.board ≡ None }
 {
-    conclude(alloc, out, USAGE, Halt::Refused(Refusal::Words))
+    stop(alloc, out, Halt::Refused(Refusal::Words))
+}
+
+/// Ends a command that stopped: writes the line of a refusal.
+fn stop<'a, K: Sink>(alloc: Global, out: &mut K, halt: Halt<'a>) -> Ran<'a>
+    ensures concluded { Concludes usage (halt_of halt.entry) (K.page out.old) result.status (K.page out.new) }
+    ensures board { result.board ≡ None }
+{
+    let status = conclude(alloc, out, USAGE, &halt);
+    Ran {
+        status,
+        board: None,
+        aside: Aside::of_halt(halt),
+    }
 }
 
 /// Runs a command that one thread runs.
-fn run_alone<F: Files, K: Sink, L: Ledger>(
+fn run_alone<'a, F: Files, K: Sink, L: Ledger>(
     alloc: Global,
-    command: AloneCommand<'_>,
+    command: AloneCommand<'a>,
     files: &mut F,
     out: &mut K,
     steps: &mut Steps<L>,
-) -> Status
+) -> Ran<'a>
     requires { IsWithin (Alone (alone_told command)) }
-    ensures { EndsAs (Some (Alone (alone_told command.entry))) (record { world = F.world files.old; page = K.page out.old; rows = steps.old })
-        result None (record { world = F.world files.new; page = K.page out.new; rows = steps.new }) }
+    ensures ended { EndsAs (Some (Alone (alone_told command.entry))) (record { world = F.world files.old; page = K.page out.old; rows = steps.old })
+        result.status None (record { world = F.world files.new; page = K.page out.new; rows = steps.new }) }
+    ensures board { result.board ≡ None }
 {
     match go_alone(alloc, command, files, out, steps) {
-        Ok(status) => status,
-        Err(halt) => conclude(alloc, out, USAGE, halt),
+        Ok(ran) => ran,
+        Err(halt) => stop(alloc, out, halt),
     }
 }
 
@@ -140,10 +143,11 @@ fn go_alone<'a, F: Files, K: Sink, L: Ledger>(
     files: &mut F,
     out: &mut K,
     steps: &mut Steps<L>,
-) -> Result<Status, Halt<'a>>
+) -> Result<Ran<'a>, Halt<'a>>
     requires { IsWithin (Alone (alone_told command)) }
-    ensures { GoesAs (Alone (alone_told command.entry)) (record { world = F.world files.old; page = K.page out.old; rows = steps.old })
-        (read_of result) None (record { world = F.world files.new; page = K.page out.new; rows = steps.new }) }
+    ensures gone { GoesAs (Alone (alone_told command.entry)) (record { world = F.world files.old; page = K.page out.old; rows = steps.old })
+        (status_told result) None (record { world = F.world files.new; page = K.page out.new; rows = steps.new }) }
+    ensures board { IfOk result (λ ran. ran.board ≡ None) }
 {
     match command {
         AloneCommand::Check { portfolio } => run_check(alloc, files, out, portfolio),
@@ -154,22 +158,19 @@ fn go_alone<'a, F: Files, K: Sink, L: Ledger>(
 }
 
 /// Runs a command that several threads run.
-fn run_threaded<R: Threads + Wait + Sync, F: Files, K: Sink, G: Gate>(
+fn run_threaded<'a, R: Threads + Wait + Sync, F: Files, K: Sink, G: Gate>(
     context: &Context<'_, R, G>,
-    command: ThreadedCommand<'_>,
+    command: ThreadedCommand<'a>,
     files: &mut F,
     out: &mut K,
-) -> Ran
+) -> Ran<'a>
     requires { IsWithin (Threaded (threaded_told command)) }
     ensures { (rows : ℕ) → EndsAs (Some (Threaded (threaded_told command.entry))) (record { world = F.world files.old; page = K.page out.old; rows = rows })
         result.status result.board (record { world = F.world files.new; page = K.page out.new; rows = rows }) }
 {
     match go_threaded(context, command, files, out) {
         Ok(ran) => ran,
-        Err(halt) => Ran {
-            status: conclude(context.alloc, out, USAGE, halt),
-            board: None,
-        },
+        Err(halt) => stop(context.alloc, out, halt),
     }
 }
 
@@ -179,7 +180,7 @@ fn go_threaded<'a, R: Threads + Wait + Sync, F: Files, K: Sink, G: Gate>(
     command: ThreadedCommand<'a>,
     files: &mut F,
     out: &mut K,
-) -> Result<Ran, Halt<'a>>
+) -> Result<Ran<'a>, Halt<'a>>
     requires { IsWithin (Threaded (threaded_told command)) }
     ensures { (rows : ℕ) → GoesAs (Threaded (threaded_told command.entry)) (record { world = F.world files.old; page = K.page out.old; rows = rows })
         (status_told result) (board_of result) (record { world = F.world files.new; page = K.page out.new; rows = rows }) }

@@ -1,3 +1,4 @@
+pub mod Adding
 pub mod JournalAnswers
 pub mod KnownLines
 pub mod Readable

@@ -1,5 +1,5 @@
 -- Whether answers end well. This profile's own.
-use Rattle.std.specs.Prelude.{ℕ, if◌then◌else◌, Bool, true, false, List}
+use Rattle.std.specs.Prelude.{◌&&◌, ℕ, if◌then◌else◌, is_none, Bool, true, false, List}
 use Rattle.std.specs.List.{list_all}
 use Rattle.act_model.specs.Answer.{Reply}
 use Rattle.act_model.specs.Run.{Stream}
@@ -7,6 +7,7 @@ use Rattle.act_model.specs.declared.run.Close.{Close}
 use Rattle.act_model.specs.declared.run.Close.TheVariants.{End, Missing, Overflow}
 use Rattle.act_engine.specs.declared.status.Status.{Status}
 use Rattle.act_engine.specs.declared.status.Status.TheVariants.{Done, Unfinished}
+use Rattle.act_transcript.specs.declared.ends.Stops.{Stops}
 
 -- a run that wasn't stopped
 abbrev pub is_end : Close → Bool
@@ -25,3 +26,11 @@ ends_well answer = all_end answer.runs
 -- the status of answers
 abbrev pub answers_status : List Reply → Status
 answers_status answers = if list_all ends_well answers then Done else Unfinished
+
+-- no block stops: there is no first one of either sort
+abbrev pub are_none : Stops → Bool
+are_none stops = is_none stops.missing.first && is_none stops.overflow.first
+
+-- the status of what has these stops
+abbrev pub stops_status : Stops → Status
+stops_status stops = if are_none stops then Done else Unfinished

@@ -1,48 +1,110 @@
-//! Whether answers end well.
-ghost use Rattle.std.specs.Prelude.{◌≡◌, if◌then◌else◌};
+//! Which blocks of answers close otherwise than with `end`.
+ghost use Rattle.std.specs.Prelude.{◌≡◌, ◌&&◌, is_some, true};
 ghost use Rattle.std.specs.List.{list_all};
-ghost use Rattle.act_engine.specs.declared.status.Status.TheVariants.{Done, Unfinished};
-ghost use Rattle.act_transcript.specs.Ends.{ends_well, is_end};
+ghost use Rattle.act_transcript.specs.Ends.{are_none, ends_well, is_end, stops_status};
 ghost use Rattle.act_history.specs.History.{replies_of};
 
 use act_engine::Status;
 use act_model::{Answer, Close};
 
-/// Whether each block of an answer ends in `end`.
-pub fn ends_well(answer: &Answer) -> bool
-    ensures { result ≡ ends_well answer.now }
-{
-    answer.runs.iter().all(|run| is_end(&run.1.close))
+/// The blocks that close otherwise than with `end`.
+#[derive(Clone, Copy)]
+pub struct Stops {
+    /// Those that close with `missing`.
+    pub missing: Stopped,
+    /// Those that close with `overflow`.
+    pub overflow: Stopped,
 }
 
-/// Whether each block of answers ends in `end`.
-pub fn all_end_well(lists: &[Vec<Answer>]) -> bool
-    ensures { result ≡ list_all ends_well (replies_of lists.now) }
-{
-    lists.iter().all(|answers| end_well(answers))
+/// Blocks that close in one way.
+#[derive(Clone, Copy)]
+pub struct Stopped {
+    /// The contract of the first, and how it closes; None where there is no such block.
+    pub first: Option<(u32, Close)>,
+    /// How many there are behind the first, as far as a counter goes.
+    pub more: u64,
 }
 
-/// Whether each block of answers of one list ends in `end`.
-fn end_well(answers: &[Answer]) -> bool
-    ensures { result ≡ list_all ends_well answers.now }
+/// Which blocks of answers stop.
+pub fn stops_of(lists: &[Vec<Answer>]) -> Stops
+    ensures { are_none result ≡ list_all ends_well (replies_of lists.now) }
 {
-    answers.iter().all(|answer| ends_well(answer))
+    let mut stops = Stops::NONE;
+    for answers in lists {
+        stops.add_all(answers);
+    }
+    stops
 }
 
-/// The status of answers, by whether each of their blocks ends in `end`.
-pub fn answers_status(ended: bool) -> Status
-    ensures { result ≡ (if ended then Done else Unfinished) }
-{
-    if ended {
-        Status::Done
-    } else {
-        Status::Unfinished
+impl Stops {
+    /// No block stops.
+    pub const NONE: Stops = Stops {
+        missing: Stopped::NONE,
+        overflow: Stopped::NONE,
+    };
+
+    /// Whether no block stops.
+    pub fn are_none(&self) -> bool
+        ensures { result ≡ are_none self.now }
+    {
+        self.missing.first.is_none() && self.overflow.first.is_none()
+    }
+
+    /// The status of a command that wrote these blocks, and others that end in `end`.
+    pub fn status(&self) -> Status
+        ensures { result ≡ stops_status self.now }
+    {
+        if self.are_none() {
+            Status::Done
+        } else {
+            Status::Unfinished
+        }
+    }
+
+    /// Adds those of an answer.
+    pub fn add(&mut self, answer: &Answer)
+        ensures { are_none self.new ≡ (are_none self.old && ends_well answer.now) }
+    {
+        for run in &answer.runs {
+            self.add_block(run.0, run.1.close);
+        }
+    }
+
+    /// Adds those of answers.
+    fn add_all(&mut self, answers: &[Answer])
+        ensures { are_none self.new ≡ (are_none self.old && list_all ends_well answers.now) }
+    {
+        for answer in answers {
+            self.add(answer);
+        }
+    }
+
+    /// Adds the block of a contract that closes so, if it stops.
+    fn add_block(&mut self, contract: u32, close: Close)
+        ensures { are_none self.new ≡ (are_none self.old && is_end close) }
+    {
+        match close {
+            Close::End => (),
+            Close::Missing { .. } => self.missing.add(contract, close),
+            Close::Overflow { .. } => self.overflow.add(contract, close),
+        }
     }
 }
 
-/// Whether a run wasn't stopped.
-fn is_end(close: &Close) -> bool
-    ensures { result ≡ is_end close.now }
-{
-    matches!(close, Close::End)
+impl Stopped {
+    /// No such block.
+    const NONE: Stopped = Stopped {
+        first: None,
+        more: 0,
+    };
+
+    /// Adds the block of a contract that closes so.
+    fn add(&mut self, contract: u32, close: Close)
+        ensures { is_some self.new.first ≡ true }
+    {
+        match self.first {
+            Some(_) => self.more = self.more.saturating_add(1),
+            None => self.first = Some((contract, close)),
+        }
+    }
 }

@@ -11,5 +11,5 @@ mod rows;
 
 pub use answers::{answer_count, write_answers};
 pub use blocks::{Blocks, Known};
-pub use ends::{all_end_well, answers_status, ends_well};
+pub use ends::{Stopped, Stops, stops_of};
 pub use heads::{JournalStep, write_heads};

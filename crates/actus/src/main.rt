@@ -5,46 +5,62 @@ ghost use Rattle.std.specs.Prelude.{◌≡◌, ◌<◌, ℕ, map, string_bytes};
 ghost use Rattle.act_top.specs.Commands.{EndsAs};
 ghost use Rattle.act_top.specs.Words.{command_of};
 
+mod identity;
+
+use act_aside::{Named, PlainFiles, refusal_message, text_message};
 use act_desk::Context;
-use act_engine::{Status, exit_of, words_behind_the_name};
+use act_engine::{Refusal, Status, exit_of, words_behind_the_name};
+use act_explain::{Identity, words_message};
 use act_io::{Files, NoGate, RealFiles, Sink, StdSink};
 use act_num::{NoMemory, Steps};
-use act_top::{Ran, actus_top};
+use act_top::{Aside, Ran, actus_top};
 use std::alloc::Global;
 use std::env;
 use std::marker::Brand;
 use std::process::ExitCode;
+use std::rt::Files as FileSystem;
 use std::sync::Wait;
 use std::sync::ledger::{Blank, Ledger};
 use std::thread::Threads;
+
+/// What this program was made of.
+const IDENTITY: Identity<'_> = Identity {
+    sources: identity::SOURCES,
+    kit: identity::KIT,
+};
 
 fn main(rt: HostRuntime) -> ExitCode {
     let alloc = rt.alloc();
     let mut files = RealFiles::new(&rt);
     let mut out = StdSink::new(alloc, &rt);
-    let status = match words_behind_the_name(alloc, env::args(&rt)) {
-        Ok(words) => status_of(run::<Brand, _, _, _>(
-            &rt,
-            alloc,
-            &words,
-            &mut files,
-            &mut out,
-            Blank::new(1),
-        )),
-        Err(NoMemory) => Status::NoMemory,
-    };
-    exit_of(status, out.finish().is_ok())
+    match words_behind_the_name(alloc, env::args(&rt)) {
+        Ok(words) => {
+            let ran = run::<Brand, _, _, _>(
+                &rt,
+                alloc,
+                &words,
+                &mut files,
+                &mut out,
+                Blank::new(1),
+            );
+            let written = out.finish().is_ok();
+            let (status, aside) = parts_of(ran);
+            tell(&rt, alloc, &words, &aside);
+            exit_of(status, written)
+        }
+        Err(NoMemory) => exit_of(Status::NoMemory, out.finish().is_ok()),
+    }
 }
 
 /// Runs a command with a counter of its own, and a gate that does nothing.
-fn run<L: Ledger, R: Threads + Wait + Sync, F: Files, K: Sink>(
+fn run<'a, L: Ledger, R: Threads + Wait + Sync, F: Files, K: Sink>(
     rt: &R,
     alloc: Global,
-    words: &[String],
+    words: &'a [String],
     files: &mut F,
     out: &mut K,
     blank: Blank,
-) -> Ran
+) -> Ran<'a>
     requires name { blank.name ≡ L.name }
     requires parts { blank.parts ≡ L.parts }
     requires some_parts { 0 < L.parts }
@@ -60,11 +76,28 @@ fn run<L: Ledger, R: Threads + Wait + Sync, F: Files, K: Sink>(
     actus_top(&context, words, files, out, &mut steps)
 }
 
-/// How a command ended; its board is dropped.
-fn status_of(ran: Ran) -> Status
-    ensures { result ≡ ran.status }
+/// How a command ended, and what can be told of it beside its text; its board is dropped.
+fn parts_of(ran: Ran<'_>) -> (Status, Aside<'_>)
+    ensures { result.0 ≡ ran.entry.status }
 {
-    let Ran { status, board } = ran;
+    let Ran {
+        status,
+        board,
+        aside,
+    } = ran;
     drop(board);
-    status
+    (status, aside)
+}
+
+/// Tells on standard error what can be told of a command of these words beside its text, where that can be written.
+fn tell<R: Eprint + FileSystem>(rt: &R, alloc: Global, words: &[String], aside: &Aside<'_>) {
+    let mut files = PlainFiles::new(rt);
+    let named = Named::by_command(words);
+    let message = match aside {
+        Aside::Nothing => return,
+        Aside::Refused(Refusal::Words) => words_message(alloc, words, IDENTITY),
+        Aside::Refused(refusal) => refusal_message(alloc, &mut files, &named, refusal),
+        Aside::Written { job, stops } => text_message(alloc, &mut files, &named, job, stops),
+    };
+    let _ = rt.eprint(message.as_str());
 }

@@ -3,9 +3,10 @@ ghost use Rattle.std.specs.Prelude.{◌≡◌, ◌↔◌, IsTrue, length};
 ghost use Rattle.act_script.specs.Asks.{AsksBelow, is_below};
 
 use act_date::parse_day;
+use act_explain::{AskWeight, Message, explain_weight};
 use act_model::{Asked, Line, Obs, Step};
 use act_num::Fixed;
-use act_script::{All, weigh};
+use act_script::{All, MOST_WEIGHT, weigh};
 use cases_rows::Case;
 
 /// Tells the place of the first ask past the limit in two scripts.
@@ -36,8 +37,30 @@ fn weighed(
     requires second { AsksBelow (length weights.now) second.items }
 {
     match vec![in case.alloc; first, second] {
-        Ok(scripts) => case.value(weigh(weights, all, events, &scripts)),
+        Ok(scripts) => {
+            let past = weigh(weights, all, events, &scripts);
+            case.value(past);
+            if past.is_some() {
+                explanation_told(case, all, events);
+            }
+        }
         Err(_) => case.fail("memory ran out"),
+    }
+}
+
+/// Tells trouble where an ask for all that weighs too much has no explanation.
+fn explanation_told(case: &mut Case<'_>, all: All, events: u64) {
+    let mut message = Message::new(case.alloc);
+    let weight = AskWeight {
+        before: 0,
+        contracts: all.contracts,
+        events: all.weight,
+        event_lines: events,
+    };
+    explain_weight(&mut message, None, weight, MOST_WEIGHT);
+    let text = message.as_str();
+    if !text.contains(" 4,194,304 ") || !text.ends_with(" (ERRORS, script 5)\n") {
+        case.fail("no explanation");
     }
 }
 

@@ -1,6 +1,7 @@
 //! Commands, over files and a sink in memory.
 ghost use Rattle.std.specs.Prelude.{◌≡◌, ◌<◌};
 
+use crate::explained::refusal_told;
 use crate::failing::each_told;
 use act_engine::Status;
 use act_io::{Files, MemFiles, MemSink, Sink};
@@ -111,10 +112,20 @@ fn refused<F: Files>(case: &mut Case<'_>, files: &mut F) {
     over(&mut eval, files, "refuse", "eval p.json");
     over(case, files, "refuse", "check p.json");
     case.is_wrong |= eval.is_wrong;
+    explanation_told(case, files);
     if case.told != eval.told {
         case.text(", but eval ");
         case.bytes_told(&eval.told);
     }
+}
+
+/// Tells trouble where the portfolio of a row has no explanation.
+fn explanation_told<F: Files>(case: &mut Case<'_>, files: &mut F) {
+    let mut list = Vec::new(case.alloc);
+    let portfolio = portfolio(case, files, case.given);
+    case.file_added(&mut list, "p.json", portfolio);
+    let files = MemFiles::new(case.alloc, list, Vec::new(case.alloc));
+    refusal_told(case, files, "p.json");
 }
 
 /// Runs a command over files and a sink, and answers how it ended.

@@ -99,14 +99,14 @@ fn among_all<R: Threads + Wait + Sync, F: Files>(
 }
 
 /// Runs a command with a counter of its own.
-fn run<L: Ledger, R: Threads + Wait + Sync>(
+pub fn run<'a, L: Ledger, R: Threads + Wait + Sync>(
     rt: &R,
     alloc: Global,
-    words: &[String],
+    words: &'a [String],
     files: &mut MemFiles,
     out: &mut MemSink,
     blank: Blank,
-) -> Ran
+) -> Ran<'a>
     requires name { blank.name ≡ L.name }
     requires parts { blank.parts ≡ L.parts }
     requires some_parts { 0 < L.parts }
@@ -121,7 +121,7 @@ fn run<L: Ledger, R: Threads + Wait + Sync>(
 }
 
 /// How a command ended.
-fn end_of(ran: Ran) -> Ended {
+fn end_of(ran: Ran<'_>) -> Ended {
     Ended {
         status: ran.status.number(),
         has_board: ran.board.is_some(),

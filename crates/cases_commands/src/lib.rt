@@ -3,6 +3,7 @@
 
 mod commands;
 mod desk;
+mod explained;
 mod failing;
 mod meeting;
 mod narrow;
@@ -23,6 +24,7 @@ pub fn answer<R: Threads + Wait + Sync, F: Files>(
         "at_desk" | "among_all" | "meet" | "race" | "race_among_all" => desk::answer(
             rt, case, files, call,
         ),
+        "explain" => explained::answer(rt, case, files),
         "narrow" => narrow::answer(case, files),
         _ => commands::answer(case, files, call),
     }

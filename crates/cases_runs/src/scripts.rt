@@ -1,5 +1,7 @@
 //! Calls of scripts.
 use crate::kept::portfolio;
+use act_engine::ScriptRule;
+use act_explain::{File, Message, explain_line};
 use act_io::Files;
 use act_model::{Line, MOST_BYTES, MOST_ENTRIES, Names, Obs, Step, Terms};
 use act_script::{ScriptFault, read_script};
@@ -16,13 +18,13 @@ const IDS: [&str; 6] = ["P1", "L1", "S1", "E1", "A1", "B1"];
 pub fn answer<F: Files>(case: &mut Case<'_>, files: &mut F, call: &str) {
     let bytes = case.file(files, CONTRACTS);
     match portfolio(case.alloc, &bytes) {
-        Some(portfolio) => over(case, portfolio.terms(), call),
+        Some(portfolio) => over(case, portfolio.terms(), &bytes, call),
         None => case.fail("the portfolio is refused"),
     }
 }
 
-/// Tells what scripts over contracts of these kinds say.
-fn over(case: &mut Case<'_>, kinds: &[Terms], call: &str) {
+/// Tells what scripts over contracts of these kinds, which stand in a file of these bytes, say.
+fn over(case: &mut Case<'_>, kinds: &[Terms], contracts: &[u8], call: &str) {
     let mut names = Names::new(case.alloc);
     for id in &IDS {
         if number_of(&mut names, "contract", id).is_none() {
@@ -41,7 +43,10 @@ fn over(case: &mut Case<'_>, kinds: &[Terms], call: &str) {
         match read(case.alloc, &bytes, &mut names, kinds, &mut entries) {
             Ok(lines) if call == "codes" => codes_told(case, &lines),
             Ok(lines) => lines_told(case, &names, &lines),
-            Err(fault) => case.value(fault),
+            Err(fault) => {
+                case.value(fault);
+                explanation_told(case, &bytes, contracts, fault);
+            }
         }
     }
     match call {
@@ -49,6 +54,30 @@ fn over(case: &mut Case<'_>, kinds: &[Terms], call: &str) {
         "script_behind" => entries_told(case, entries),
         "codes" => names_told(case, &names),
         _ => case.fail("no such call"),
+    }
+}
+
+/// Tells trouble where a refusal of a script has no explanation that names its number.
+fn explanation_told(case: &mut Case<'_>, script: &[u8], contracts: &[u8], fault: ScriptFault) {
+    let (line, rule) = match fault {
+        ScriptFault::NotLine(line) => (line, ScriptRule::NotLine),
+        ScriptFault::UnknownName(line) => (line, ScriptRule::UnknownName),
+        ScriptFault::EventUnfit(line) => (line, ScriptRule::EventUnfit),
+        ScriptFault::TooManyEntries(line) => (line, ScriptRule::TooManyEntries),
+        ScriptFault::NoMemory => return,
+    };
+    let mut message = Message::new(case.alloc);
+    let file = File {
+        name: "s.txt",
+        bytes: script,
+    };
+    let portfolio = File {
+        name: CONTRACTS,
+        bytes: contracts,
+    };
+    explain_line(case.alloc, &mut message, file, line, rule, portfolio);
+    if !message.as_str().starts_with("s.txt:") || !message.as_str().contains(" (ERRORS, script ") {
+        case.fail("no explanation");
     }
 }
 

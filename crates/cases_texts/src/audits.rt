@@ -59,5 +59,5 @@ fn judge<L: Ledger>(
     requires some_parts { 0 < L.parts }
 {
     let mut steps = Steps::<L>::new(blank);
-    audit_top(alloc, words, files, sink, &mut steps)
+    audit_top(alloc, words, files, sink, &mut steps).status
 }

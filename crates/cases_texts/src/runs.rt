@@ -1,6 +1,6 @@
 //! Runs of the desk, each compared with what one thread comes to.
 use crate::alone::wanted_told;
-use crate::desk::by_desk;
+use crate::desk::{by_desk, desk_words};
 use act_io::Files;
 use act_model::Names;
 use cases_rows::{Case, number_of};
@@ -45,7 +45,8 @@ fn answers_agreed<R: Threads + Wait + Sync, F: Files>(
     workers: &str,
     names: &Names,
 ) -> Option<u64> {
-    let (ran, sink) = by_desk(rt, case, files, folder, workers);
+    let words = desk_words(case, workers);
+    let (ran, sink) = by_desk(rt, case, files, folder, &words);
     let mut found = Case::of(case.alloc, "");
     found.value(ran.status.number());
     found.text(" ");

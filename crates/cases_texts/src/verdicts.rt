@@ -1,6 +1,6 @@
 //! Audits of texts of the desk, as they are and with a byte changed.
 use crate::audits::audit_told;
-use crate::desk::by_desk;
+use crate::desk::{by_desk, desk_words};
 use crate::lists::{shelf, text};
 use act_io::Files;
 use cases_rows::{Case, parts_around};
@@ -18,7 +18,8 @@ pub fn audited_told<R: Threads + Wait + Sync, F: Files>(
     files: &mut F,
 ) {
     let (folder, workers) = (case.word(), case.word());
-    let (_, sink) = by_desk(rt, case, files, folder, workers);
+    let words = desk_words(case, workers);
+    let (_, sink) = by_desk(rt, case, files, folder, &words);
     text_told(case, files, folder, "p.json TEXT", sink.bytes(), usize::MAX);
     case.text(", ");
     text_told(case, files, folder, WITH_SCRIPTS, sink.bytes(), usize::MAX);
@@ -33,7 +34,8 @@ pub fn changed_told<R: Threads + Wait + Sync, F: Files>(
     files: &mut F,
 ) {
     let (folder, workers) = (case.word(), case.word());
-    let (_, sink) = by_desk(rt, case, files, folder, workers);
+    let words = desk_words(case, workers);
+    let (_, sink) = by_desk(rt, case, files, folder, &words);
     let text = sink.bytes();
     let (journal, _) = parts_around(text, b"\nanswers ").unwrap_or((b"", b""));
     let (mut line, mut differ) = (1_u64, 0_u64);

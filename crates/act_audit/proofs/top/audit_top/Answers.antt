@@ -18,13 +18,13 @@ pub returns-in-Err : goal.returns-in-Err
 returns-in-Err g c =
     let before : Outside = record { world = g.F.Files.world c.args.files.now; page = g.K.Sink.page c.args.out.now; rows = c.args.steps.now } in
     let middle : Outside = record { world = g.F.Files.world c.audit.new.files; page = g.K.Sink.page c.audit.new.out; rows = c.audit.new.steps } in
-    let page = g.K.Sink.page c.conclude.new.out in
-    subst (λ (w : Option AuditFiles). EndsAs w before c.conclude.result (record middle { page = page })) (sym c.in-Some.is ∙ c.of.ensures)
-    (ends-halt (audit_meaning c.in-Some.words) usage before (halt_of c.in-Err.halt) c.conclude.result middle page c.in-Err.ensures c.conclude.ensures)
+    let page = g.K.Sink.page c.stop.new.out in
+    subst (λ (w : Option AuditFiles). EndsAs w before c.stop.result.status (record middle { page = page })) (sym c.in-Some.is ∙ c.of.ensures)
+    (ends-halt (audit_meaning c.in-Some.words) usage before (halt_of c.in-Err.halt) c.stop.result.status middle page c.in-Err.ensures c.stop.ensures)
 
 pub returns-in-None : goal.returns-in-None
 returns-in-None g c =
     let before : Outside = record { world = g.F.Files.world c.args.files.now; page = g.K.Sink.page c.args.out.now; rows = c.args.steps.now } in
-    let page = g.K.Sink.page c.conclude-in-None.new.out in
-    subst (λ (w : Option AuditFiles). EndsAs w before c.conclude-in-None.result (record before { page = page })) (sym c.in-None.is ∙ c.of.ensures)
-    (ends-halt words_meaning usage before (Refused Words) c.conclude-in-None.result before page (reads_refusal Words before.world, refl, refl, refl) c.conclude-in-None.ensures)
+    let page = g.K.Sink.page c.stop-in-None.new.out in
+    subst (λ (w : Option AuditFiles). EndsAs w before c.stop-in-None.result.status (record before { page = page })) (sym c.in-None.is ∙ c.of.ensures)
+    (ends-halt words_meaning usage before (Refused Words) c.stop-in-None.result.status before page (reads_refusal Words before.world, refl, refl, refl) c.stop-in-None.ensures)

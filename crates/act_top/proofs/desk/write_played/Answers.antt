@@ -10,7 +10,7 @@ use Rattle.act_top.proofs.desk.write_played.Goals as goal
 
 pub returns-in-Ok-clause-status : goal.returns-in-Ok-clause-status
 returns-in-Ok-clause-status g c =
-    let j = c.args.job.now in
+    let j = c.args.job in
     let answers = answers_of j.portfolio.contracts j.scripts.names (journal_of c.args.played.board) in
     let kept = ap replies_of c.deref-2.ensures.value ∙ (c.requires.answers ∙ map-id answers) in
-    c.answers_status.ensures ∙ ap (λ (b : Bool). if b then Done else Unfinished) (c.all_end_well-ended.ensures ∙ ap (λ (replies : List Reply). list_all ends_well replies) kept)
+    c.status.ensures ∙ ap (λ (b : Bool). if b then Done else Unfinished) (c.stops_of-stops.ensures ∙ ap (λ (replies : List Reply). list_all ends_well replies) kept)

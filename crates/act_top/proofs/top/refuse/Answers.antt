@@ -7,7 +7,7 @@ use Rattle.std.proofs.Common.{refl}
 use Rattle.act_top.specs.Words.{usage}
 use Rattle.act_top.proofs.top.refuse.Goals as goal
 
-pub returns : goal.returns
-returns g c = λ world rows.
+pub returns-clause-ended : goal.returns-clause-ended
+returns-clause-ended g c = λ world rows.
     let before : Outside = record { world = world; page = g.K.Sink.page c.args.out.now; rows = rows } in
-    ends-halt words_meaning usage before (Refused Words) c.conclude.result before (g.K.Sink.page c.conclude.new.out) (reads_refusal Words world, refl, refl, refl) c.conclude.ensures
+    ends-halt words_meaning usage before (Refused Words) c.stop.result.status before (g.K.Sink.page c.stop.new.out) (reads_refusal Words world, refl, refl, refl) c.stop.ensures.concluded

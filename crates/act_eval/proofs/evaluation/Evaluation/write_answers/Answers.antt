@@ -1,4 +1,5 @@
-use Rattle.std.proofs.Common.{None, ◌≡◌, ◌+◌, ◌∷◌, [], List, true, drop, take, refl, get_or, length, sym, ap, subst, ◌∙◌, arith, Bor}
+use Rattle.std.proofs.Common.{None, ◌≡◌, ◌+◌, ◌∷◌, [], List, Bool, true, drop, take, refl, get_or, length, sym, ap, subst, ◌∙◌, arith, Bor}
+use Rattle.std.specs.Prelude.{◌&&◌}
 use Rattle.act_engine.proofs.Lists.{drop-next, drop-past}
 use Rattle.act_engine.proofs.Texts.{writes-part}
 use Rattle.act_history.specs.History.{History, asks_by, entries_of, version_of}
@@ -9,7 +10,7 @@ use Rattle.act_model.specs.declared.journal.Line.{Line}
 use Rattle.act_model.specs.declared.journal.Step.{Step}
 use Rattle.act_model.specs.declared.observed.Obs.{Obs}
 use Rattle.act_portfolio.specs.Reading.{Accepted}
-use Rattle.act_transcript.specs.Ends.{ends_well}
+use Rattle.act_transcript.specs.Ends.{are_none, ends_well}
 use Rattle.act_transcript.specs.declared.blocks.Blocks.{Blocks}
 use Rattle.act_eval.specs.Driven.{IsAtRest, next_answer, next_ask}
 use Rattle.act_eval.specs.Evaluation.{Evaluation}
@@ -18,7 +19,7 @@ use Rattle.act_eval.proofs.Blocks.{blocks-later}
 use Rattle.act_eval.proofs.Quiet.{quiet-present}
 use Rattle.act_eval.proofs.Scripts.{IsAt, answer-part, at-append, at-ask, at-end, at-first, at-rest, at-stop, begins-still, few-asked, line-known, quota-left}
 use Rattle.act_eval.proofs.evaluation.Evaluation.write_answers.Goals as goal
-use Rattle.act_eval.proofs.evaluation.Evaluation.write_answers.Goals.{After-loop-step, In-loop-step, in-Append+in_ok-append-in-Append, in-Ask+in_ok-ended-in-Ask}
+use Rattle.act_eval.proofs.evaluation.Evaluation.write_answers.Goals.{After-loop-step, In-loop-step, in-Append+in_ok-append-in-Append, in-Ask+in_ok-write_answer-in-Ask}
 
 -- the contracts are those of the portfolio
 contracts-are : (g : _) (c : In-loop-step g) → c.args.self.now.names.contracts ≡ c.args.self.now.portfolio.names.contracts
@@ -26,19 +27,19 @@ contracts-are g c = sym (ap (λ (v : Evaluation). v.names.contracts) c.self.view
 
 -- how far the script is where this line is the next one
 at-line : (g : _) (c : In-loop-step g) (line : Line) → line ≡ get_or c.self.inside.lines.now c.loop-step.step-index line
-    → IsAt c.args.self.now.portfolio c.args.self.now.names c.args.self.now.lines (line ∷ drop (c.loop-step.step-index + 1) c.args.self.now.lines) c.loop-step.driver.board c.loop-step.ended c.args.steps.now c.loop-step.steps (g.K.Sink.page c.args.out.now) (g.K.Sink.page c.loop-step.out)
+    → IsAt c.args.self.now.portfolio c.args.self.now.names c.args.self.now.lines (line ∷ drop (c.loop-step.step-index + 1) c.args.self.now.lines) c.loop-step.driver.board (are_none c.loop-step.stops) c.args.steps.now c.loop-step.steps (g.K.Sink.page c.args.out.now) (g.K.Sink.page c.loop-step.out)
 at-line g c line is =
     let e = c.args.self.now in
     let here = drop-next c.self.inside.lines.now c.loop-step.step-index line c.loop-step-test.true is in
-    subst (λ (ls : List Line). IsAt e.portfolio e.names e.lines ls c.loop-step.driver.board c.loop-step.ended c.args.steps.now c.loop-step.steps (g.K.Sink.page c.args.out.now) (g.K.Sink.page c.loop-step.out))
+    subst (λ (ls : List Line). IsAt e.portfolio e.names e.lines ls c.loop-step.driver.board (are_none c.loop-step.stops) c.args.steps.now c.loop-step.steps (g.K.Sink.page c.args.out.now) (g.K.Sink.page c.loop-step.out))
     (rw (ap (λ (v : Evaluation). v.lines) c.self.view_is) at here) c.loop-step.invariant.at
 
 -- and where none is left
 at-none : (g : _) (c : After-loop-step g)
-    → IsAt c.args.self.now.portfolio c.args.self.now.names c.args.self.now.lines [] c.loop-step.driver.board c.loop-step.ended c.args.steps.now c.loop-step.steps (g.K.Sink.page c.args.out.now) (g.K.Sink.page c.loop-step.out)
+    → IsAt c.args.self.now.portfolio c.args.self.now.names c.args.self.now.lines [] c.loop-step.driver.board (are_none c.loop-step.stops) c.args.steps.now c.loop-step.steps (g.K.Sink.page c.args.out.now) (g.K.Sink.page c.loop-step.out)
 at-none g c =
     let e = c.args.self.now in
-    subst (λ (ls : List Line). IsAt e.portfolio e.names e.lines ls c.loop-step.driver.board c.loop-step.ended c.args.steps.now c.loop-step.steps (g.K.Sink.page c.args.out.now) (g.K.Sink.page c.loop-step.out))
+    subst (λ (ls : List Line). IsAt e.portfolio e.names e.lines ls c.loop-step.driver.board (are_none c.loop-step.stops) c.args.steps.now c.loop-step.steps (g.K.Sink.page c.args.out.now) (g.K.Sink.page c.loop-step.out))
     (drop-past e.lines c.loop-step.step-index (omega (arith, c.loop-step-test.false, ap (λ (v : Evaluation). length v.lines) c.self.view_is))) c.loop-step.invariant.at
 
 pub loop-step-init : goal.loop-step-init
@@ -91,32 +92,34 @@ write_answer-requires-clause-named g c =
 
 pub loop-step-preserved : goal.loop-step-preserved
 loop-step-preserved g c =
+    let e = c.args.self.now in
     let driver = c.loop-step.driver in
     let at = at-line g (goal.at.loop-step-preserved g c).In-loop-step c.step-item.result c.step-item.is in
     let first = c.loop-step.invariant in
     elim c.match-step.branch [
       | in-Append+in_ok-append-in-Append w ↦
           let told = w.in_ok-append-in-Append.ensures in
-          rw (w.out-is, w.steps-is, w.ended-is, w.driver-is) (record {
+          rw (w.out-is, w.steps-is, w.stops-is, w.driver-is) (record {
             at = rw told.board (at-append _ _ _ _ _ _ _ _ _ _ _ at w.in-Append.entry w.in-Append.is);
             counted = omega (arith, told.work, first.counted);
             portfolio = ap (λ (b : Bor Accepted). b.now) told.portfolio ∙ first.portfolio;
             names = ap (λ (b : Blocks). b.names.now) told.blocks ∙ first.names;
             blocks = rw (told.board, told.blocks) (blocks-later driver.board _ driver.blocks refl (begins-still _ _ _ _ _ _ _ _ _ _ _ at w.in-Append.entry w.in-Append.is) first.blocks);
           })
-      | in-Ask+in_ok-ended-in-Ask w ↦
+      | in-Ask+in_ok-write_answer-in-Ask w ↦
           let asked = w.in-Ask.asked in
           let board = driver.board in
           let after = w.write_answer.new.self.board in
-          let told = w.in_ok-ended-in-Ask.ensures in
+          let told = w.in_ok-write_answer-in-Ask.ensures in
           let same = contracts-are g (goal.at.loop-step-preserved g c).In-loop-step in
           let rest = subst (λ (p : Accepted). IsAtRest p after) first.portfolio told.rest in
-          let ended = subst (λ (p : Accepted). w.in_ok-ended-in-Ask.field-0 ≡ ends_well (next_answer p board asked)) first.portfolio told.ended in
+          let stops = subst (λ (p : Accepted). are_none w.write_answer.new.stops ≡ (are_none c.loop-step.stops && ends_well (next_answer p board asked))) first.portfolio told.stops in
           let ticked = subst
           (λ (p : Accepted). (entries : List Obs) → take (version_of board) entries ≡ entries_of board → w.write_answer.new.steps ≡ c.loop-step.steps + ask_work p entries (asks_by board 1) (next_ask board asked))
           first.portfolio told.ticked in
-          rw (w.out-is, w.steps-is, w.ended-is, w.driver-is) (record {
-            at = at-ask _ _ _ _ _ _ _ _ _ _ _ at asked w.in-Ask.is same after w.in_ok-ended-in-Ask.field-0 (g.K.Sink.page w.write_answer.new.out) told.asked (rw (first.names, first.portfolio) at told.text) ended w.write_answer.new.steps rest ticked;
+          rw (w.out-is, w.steps-is, w.stops-is, w.driver-is) (record {
+            at = subst (λ (b : Bool). IsAt e.portfolio e.names e.lines (drop (c.loop-step.step-index + 1) e.lines) after b c.args.steps.now w.write_answer.new.steps (g.K.Sink.page c.args.out.now) (g.K.Sink.page w.write_answer.new.out)) (sym stops)
+                (at-ask _ _ _ _ _ _ _ _ _ _ _ at asked w.in-Ask.is same after (ends_well (next_answer e.portfolio board asked)) (g.K.Sink.page w.write_answer.new.out) told.asked (rw (first.names, first.portfolio) at told.text) refl w.write_answer.new.steps rest ticked);
             counted = omega (arith, told.counted, first.counted);
             portfolio = ap (λ (b : Bor Accepted). b.now) told.portfolio ∙ first.portfolio;
             names = told.names ∙ first.names;
@@ -128,20 +131,20 @@ pub returns-in_err-append-in-Append-clause-text : goal.returns-in_err-append-in-
 returns-in_err-append-in-Append-clause-text g c =
     let e = c.args.self.now in
     writes-part c.from_residual.result _ _ _ _ c.from_residual.ensures.1
-    (at-stop e.portfolio e.names e.lines c.args.steps.now (g.K.Sink.page c.args.out.now) (drop c.loop-step.step-index e.lines) c.loop-step.driver.board c.loop-step.ended c.loop-step.steps (g.K.Sink.page c.loop-step.out) c.loop-step.invariant.at)
+    (at-stop e.portfolio e.names e.lines c.args.steps.now (g.K.Sink.page c.args.out.now) (drop c.loop-step.step-index e.lines) c.loop-step.driver.board (are_none c.loop-step.stops) c.loop-step.steps (g.K.Sink.page c.loop-step.out) c.loop-step.invariant.at)
 
-pub returns-in_err-ended-in-Ask-clause-text : goal.returns-in_err-ended-in-Ask-clause-text
-returns-in_err-ended-in-Ask-clause-text g c =
-    let behind = goal.at.returns-in_err-ended-in-Ask-clause-text g c in
-    writes-part c.from_residual-in_err-ended-in-Ask.result _ _ _ _ c.from_residual-in_err-ended-in-Ask.ensures.1
-    (answer-part _ _ _ _ _ _ _ _ _ _ _ (at-line g behind.In-loop-step c.step-item.result c.step-item.is) c.in-Ask.asked c.in-Ask.is (contracts-are g behind.In-loop-step) c.in_err-ended-in-Ask.field-0.0 (g.K.Sink.page c.write_answer.new.out)
-    (rw (c.loop-step.invariant.names, c.loop-step.invariant.portfolio) at c.in_err-ended-in-Ask.ensures.text))
+pub returns-in_err-write_answer-in-Ask-clause-text : goal.returns-in_err-write_answer-in-Ask-clause-text
+returns-in_err-write_answer-in-Ask-clause-text g c =
+    let behind = goal.at.returns-in_err-write_answer-in-Ask-clause-text g c in
+    writes-part c.from_residual-in_err-write_answer-in-Ask.result _ _ _ _ c.from_residual-in_err-write_answer-in-Ask.ensures.1
+    (answer-part _ _ _ _ _ _ _ _ _ _ _ (at-line g behind.In-loop-step c.step-item.result c.step-item.is) c.in-Ask.asked c.in-Ask.is (contracts-are g behind.In-loop-step) c.in_err-write_answer-in-Ask.field-0.0 (g.K.Sink.page c.write_answer.new.out)
+    (rw (c.loop-step.invariant.names, c.loop-step.invariant.portfolio) at c.in_err-write_answer-in-Ask.ensures.text))
 
 pub returns-clause-text : goal.returns-clause-text
 returns-clause-text g c = (at-end _ _ _ _ _ _ _ _ _ (at-none g c)).0
 
-pub returns-clause-ended : goal.returns-clause-ended
-returns-clause-ended g c = (at-end _ _ _ _ _ _ _ _ _ (at-none g c)).1
+pub returns-clause-stops : goal.returns-clause-stops
+returns-clause-stops g c = (at-end _ _ _ _ _ _ _ _ _ (at-none g c)).1
 
 pub returns-clause-ticked : goal.returns-clause-ticked
 returns-clause-ticked g c = (at-end _ _ _ _ _ _ _ _ _ (at-none g c)).2
