@@ -86,6 +86,11 @@ fn explain_unused<'x>(
 
 /// Explains the first block that stops in one way.
 fn explain_stop(message: &mut Message, named: &Named<'_>, names: &Names, stopped: &Stopped) {
+    // where it is mended: in the script, if there is one
+    let file = match named.scripts {
+        [one] => one.as_str(),
+        _ => named.portfolio,
+    };
     let Some((contract, close)) = stopped.first else {
         return;
     };
@@ -95,7 +100,7 @@ fn explain_stop(message: &mut Message, named: &Named<'_>, names: &Names, stopped
         Close::End => {}
         Close::Missing { code, day } => {
             let stop = FirstStop {
-                file: named.portfolio,
+                file,
                 contract,
                 day,
                 more,
@@ -105,7 +110,7 @@ fn explain_stop(message: &mut Message, named: &Named<'_>, names: &Names, stopped
         }
         Close::Overflow { day, kind } => {
             let stop = FirstStop {
-                file: named.portfolio,
+                file,
                 contract,
                 day,
                 more,

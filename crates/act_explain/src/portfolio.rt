@@ -167,8 +167,15 @@ fn say_no_list(alloc: Global, message: &mut Message, file: File<'_>) {
             "the file is one object, and a portfolio is a list: put [ before it and ] behind it, also around a single contract",
         );
     } else {
-        say_value(message, value_from(file.bytes, start).of(file.bytes));
-        message.say_all(&[" stands here, and a portfolio is ", PORTFOLIO]);
+        let value = value_from(file.bytes, start).of(file.bytes);
+        if matches!(value, [b'"', ..]) {
+            message.say(
+                "the file is one text in double quotes, and a portfolio is a JSON list: take the outer quotes and each backslash before a quote away",
+            );
+        } else {
+            say_value(message, value);
+            message.say_all(&[" stands here, and a portfolio is ", PORTFOLIO]);
+        }
     }
 }
 
@@ -225,7 +232,7 @@ fn say_contract(
             say_place(message, file, contract.span.start);
             contract.say(message, file.bytes);
             message.say(
-                " is the first of a chain of more than 16 contracts, each of which refers to the next: let one refer to the last one itself",
+                " is the first of a chain of more than 16 contracts, each of which refers to the next: let one of them refer directly to the contract at the chain's end",
             );
         }
     }
@@ -262,8 +269,13 @@ fn say_no_object(message: &mut Message, file: File<'_>, contract: &Contract) {
     say_place(message, file, contract.span.start);
     contract.say_place(message);
     message.say(" is ");
-    say_value(message, contract.span.of(file.bytes));
-    message.say("; a contract is an object with its terms, as {\"contractID\": \"P1\", ..}");
+    let value = contract.span.of(file.bytes);
+    say_value(message, value);
+    message.say(if matches!(value, [b'[', ..]) {
+        ", a list, and a contract is an object in { }: take one [ and one ] away"
+    } else {
+        "; a contract is an object with its terms, as {\"contractID\": \"P1\", ..}"
+    });
 }
 
 /// Says a value as it stands in the file.
@@ -372,6 +384,9 @@ fn say_missing(
         say_of(message, file, contract, term);
         message.show(member.value.of(file.bytes));
         message.say_all(&[" counts as not given, so that there is no ", term]);
+        say_need(message, file, contract, term);
+        message.say(": in place of it ");
+        return say_added(message, "write", term);
     } else if let Some(near) = near_member(alloc, file, contract, term) {
         say_place(message, file, near.name.start.saturating_sub(1));
         contract.say(message, file.bytes);
@@ -385,7 +400,7 @@ fn say_missing(
     }
     say_need(message, file, contract, term);
     message.say(": ");
-    say_added(message, term);
+    say_added(message, "add", term);
 }
 
 /// Says why a contract needs a term.
@@ -398,9 +413,7 @@ fn say_need(message: &mut Message, file: File<'_>, contract: &Contract, term: &s
         "marketObjectCodeOfScalingIndex" | "scalingIndexAtContractDealDate" => {
             ", which it needs, as its scalingEffect scales payments"
         }
-        "cycleOfPrincipalRedemption" => {
-            ", which it needs, or a cycleAnchorDateOfPrincipalRedemption (with a maturityDate)"
-        }
+        "cycleOfPrincipalRedemption" => { ", the time between redemptions" }
         "lifeCap" => " and no lifeFloor, and a CAPFL needs one of them",
         "optionStrike2" => ", which it needs, as its optionType is CP",
         "contractID" | "contractType" | "contractRole" | "statusDate" | "currency" => {
@@ -469,7 +482,11 @@ fn is_of_dates(name: &[u8]) -> bool {
     name.starts_with(b"cycle")
         || matches!(
             name,
-            b"initialExchangeDate" | b"maturityDate" | b"nextPrincipalRedemptionPayment"
+            b"initialExchangeDate"
+                | b"maturityDate"
+                | b"nextPrincipalRedemptionPayment"
+                | b"businessDayConvention"
+                | b"calendar"
         )
 }
 

@@ -165,7 +165,7 @@ fn say_line_syntax(message: &mut Message, file: File<'_>, line: Span, fault: Fau
                 )
             } else {
                 Some(
-                    "the line ends here, and its object isn't closed: each object stands in one line",
+                    "the line ends here, and its object isn't closed: write } at its end, or put all of the object in this line",
                 )
             }
         }
@@ -173,7 +173,7 @@ fn say_line_syntax(message: &mut Message, file: File<'_>, line: Span, fault: Fau
             Some("a comma stands behind the object: lines have none at their ends")
         }
         Cause::Behind => Some(
-            "something stands behind the object: each stands in a line of its own",
+            "something stands behind the object: put it in a line of its own, or take it away",
         ),
         Cause::NoStart => Some(
             "a closing bracket stands here: a script is no list, and has an object in each line",
@@ -243,7 +243,15 @@ fn say_no_rate(alloc: Global, message: &mut Message, file: File<'_>, rate: Span)
 /// Says why an event is refused.
 fn say_no_event(alloc: Global, message: &mut Message, file: File<'_>, event: Span) {
     let said = say_no_inner(message, file, event, EVENT)
-        || say_no_field(alloc, message, file, event, "contract", Form::Name, EVENT)
+        || say_no_field(
+            alloc,
+            message,
+            file,
+            event,
+            "contract",
+            Form::Contract,
+            EVENT,
+        )
         || say_no_field(alloc, message, file, event, "date", Form::Day, EVENT)
         || say_no_type(alloc, message, file, event)
         || say_no_value(alloc, message, file, event);
@@ -319,7 +327,7 @@ fn say_no_given(
         }
     }
     say_place(message, file, object.start);
-    message.say_all(&["no ", name, " is given, as in ", example]);
+    message.say_all(&["no ", name, " is given: add it, as in ", example]);
 }
 
 /// Whether a value counts as given.
@@ -330,7 +338,7 @@ fn is_given(value: &[u8]) -> bool {
 /// Whether a text has a form.
 fn fits(form: Form, text: &[u8]) -> bool {
     match form {
-        Form::Name => is_text_name(text),
+        Form::Name | Form::Contract => is_text_name(text),
         _ => has_form(form, text),
     }
 }
@@ -405,7 +413,12 @@ fn say_no_credit_event(
             say_value(message, member.value.of(file.bytes));
             message.say(" is");
         }
-        None => message.say("no value is given, which is"),
+        None => {
+            message.say(
+                "no value is given: add \"DL\" (delayed), \"DQ\" (delinquent) or \"DF\" (default), as in \"value\": \"DF\"",
+            );
+            return true;
+        }
     }
     message.say(
         " none of \"DL\" (delayed), \"DQ\" (delinquent) and \"DF\" (default), which a credit event has",
@@ -420,17 +433,20 @@ fn say_no_ask(alloc: Global, message: &mut Message, file: File<'_>, asked: Span)
     message.say("ask: ");
     say_value(message, value);
     match value {
-        [b'"', inside @ .., b'"'] if !inside.is_empty() => say_why(
+        [b'"', inside @ .., b'"'] if !inside.is_empty() && !inside.contains(&b',') => say_why(
             alloc,
             message,
-            Form::Name,
+            Form::Contract,
             inside,
         ),
         [b'[', ..] => message.say_all(&[
             " is a list: a line for each contract is wanted, as ",
             ASK,
         ]),
-        _ => message.say_all(&[" is no contract's name, as in ", ASK]),
+        _ => message.say_all(&[
+            " is no name of one contract: write a line for each, as ",
+            ASK,
+        ]),
     }
 }
 
@@ -504,7 +520,7 @@ fn say_unfit(
     let event_type = event_type(alloc, file.bytes, line);
     if event_type == b"PP".as_slice() && is_loan(contract_type) {
         return message.say(
-            "the value is below 0, and a prepayment (PP) has the amount that is prepaid, without a sign",
+            "the value of this prepayment (PP) is below 0: write the amount that is prepaid, without a sign",
         );
     }
     message.say(match event_type {
@@ -543,8 +559,12 @@ fn say_what_it_is(message: &mut Message, text: &[u8], contract: &Contract) {
     let contract_type = contract.said(text, "contractType");
     message.show(contract_type);
     if contract_type == b"OPTNS".as_slice() {
-        message.say(" with the exercise ");
         let exercise = contract.said(text, "optionExerciseType");
-        message.show(if exercise.is_empty() { b"E" } else { exercise });
+        if exercise.is_empty() {
+            message.say(" without optionExerciseType, which counts as E");
+        } else {
+            message.say(" with optionExerciseType ");
+            message.show(exercise);
+        }
     }
 }

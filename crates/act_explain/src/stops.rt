@@ -19,15 +19,20 @@ pub fn explain_missing(message: &mut Message, stop: &FirstStop<'_>, code: &str, 
     if let Some((currency, other)) = code.split_once("/") {
         message.say_all(&[" (", other, " for one ", currency, ")"]);
     }
-    message.say(" of that day or before is given");
+    message.say(" of that day or before ");
     message.say(if has_script {
-        " above the ask; see that the code is spelt alike, or add above it "
+        "stands above the ask: see that the code is spelt alike and that its line stands above, or add above the ask "
     } else {
-        ", as there is no script; one gives it by the line "
+        "is given: write a script file with "
     });
     message.say_all(&["{\"rate\": {\"code\": \"", code, "\", \"date\": \""]);
     message.day(stop.day);
-    message.say("\", \"value\": ..}}");
+    message.say("\", \"value\": 0.01}} (its value)");
+    if !has_script {
+        message.say(" in one line and {\"ask\": \"*\"} in the next, and run `actus eval ");
+        message.show(stop.file.as_bytes());
+        message.say(" SCRIPT`");
+    }
     say_more(message, stop, "missing");
 }
 

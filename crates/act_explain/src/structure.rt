@@ -1,6 +1,6 @@
 //! Structures that are refused: references of another shape, to no contract, and those that don't fit.
 
-use crate::contracts::{Contract, File, elements};
+use crate::contracts::{Contract, File, contract_named, elements};
 use crate::message::Message;
 use crate::near::say_meant;
 use crate::place::say_place;
@@ -56,7 +56,7 @@ fn say_element(
         say_at(message, file, contract, element);
         say_value(message, element.of(file.bytes));
         message.say(
-            " stands in the place of a reference, which is an object with referenceType, referenceRole and object",
+            " stands in the place of a reference, which is an object, as {\"referenceType\": \"CID\", \"referenceRole\": \"UDL\", \"object\": \"LOAN-8\"}",
         );
         return true;
     }
@@ -125,9 +125,20 @@ fn say_object(
     number: u8,
 ) -> bool {
     let Some(object) = object_of(alloc, file.bytes, element) else {
-        say_at(message, file, contract, element);
-        message.say("this reference names nothing: ");
-        message.say(OBJECT);
+        match member_of(alloc, file.bytes, element, "object") {
+            Some(member) => {
+                say_at(message, file, contract, member.value);
+                message.say(
+                    "this object names nothing: write the contract's name, as \"object\": \"LOAN-8\", or with MOC the code",
+                );
+            }
+            None => {
+                say_at(message, file, contract, element);
+                message.say(
+                    "this reference has no object: add \"object\": \"LOAN-8\", the contract's name, or with MOC the code",
+                );
+            }
+        }
         return true;
     };
     let text = said(file.bytes, object);
@@ -221,7 +232,7 @@ pub(crate) fn say_misfit(
         message.say("these references don't fit:");
         for (place, element) in elements.iter().enumerate() {
             if place > 0 {
-                message.say(",");
+                message.say(";");
             }
             say_element_briefly(alloc, message, file.bytes, *element);
         }
@@ -238,7 +249,7 @@ pub(crate) fn say_misfit(
     });
 }
 
-/// Says which role an element has, and of which type.
+/// Says which role an element has, by which type, and to what.
 fn say_element_briefly(alloc: Global, message: &mut Message, text: &[u8], element: Span) {
     for name in ["referenceRole", "referenceType"] {
         if let Some(member) = member_of(alloc, text, element, name) {
@@ -246,8 +257,14 @@ fn say_element_briefly(alloc: Global, message: &mut Message, text: &[u8], elemen
             message.show(said(text, member.value));
         }
     }
-    if let Some(object) = object_of(alloc, text, element) {
-        message.say(" ");
-        message.show(said(text, object));
+    let Some(object) = object_of(alloc, text, element) else {
+        return;
+    };
+    message.say(" '");
+    message.show(said(text, object));
+    message.say("'");
+    if let Some(found) = contract_named(alloc, text, said(text, object), u32::MAX) {
+        message.say(", a ");
+        message.show(found.said(text, "contractType"));
     }
 }

@@ -66,7 +66,7 @@ fn say_cause(message: &mut Message, file: File<'_>, fault: Fault) {
         Cause::Control => {
             message.say("the control character ");
             message.show(byte(file.bytes, place));
-            message.say(" stands in a text: take it away, or write \\t for a tab");
+            message.say(" stands in a text: take it away");
         }
         Cause::Escape => {
             message.say("\\");
@@ -74,12 +74,14 @@ fn say_cause(message: &mut Message, file: File<'_>, fault: Fault) {
             message.say(" is no escape: a backslash in a text is written twice, \\\\");
         }
         Cause::OtherEnd(start) => {
+            message.say("\"");
             message.show(byte(file.bytes, place));
-            message.say(" can't close ");
+            message.say("\" stands here, and ");
             say_start(message, file, start);
+            message.say(", before it or in its place");
         }
         Cause::Open(start) => {
-            message.say("the file ends here, and nothing closes ");
+            message.say("the file ends here, and ");
             say_start(message, file, start);
             message.say(", or the file was cut off");
         }
@@ -108,8 +110,7 @@ fn plain_words(cause: Cause) -> Option<&'static str> {
         Cause::SecondComma => "a second comma stands here: take it away",
         Cause::CommaBeforeEnd =>
             "a comma stands here, and a closing bracket behind it: take the comma away",
-        Cause::TwoNumbers =>
-            "two numbers stand side by side: no blank stands within a number, and a comma between two",
+        Cause::TwoNumbers => "a blank stands within a number: write it without one, as 1000000",
         Cause::DecimalComma => {
             "a comma stands within a number: decimals stand behind a point, as 0.05, and no sign stands between thousands"
         }
@@ -121,7 +122,7 @@ fn plain_words(cause: Cause) -> Option<&'static str> {
             "a value was wanted here: a text in double quotes, a number, a list or an object",
         Cause::NoStart => "a closing bracket stands here, and none is open: take it away",
         Cause::LineEnd =>
-            "the text that begins here has a line break in it: close it with \", or write \\n",
+            "the text that begins here has a line break in it: is a \" missing on its line?",
         Cause::OpenText => "nothing closes the text that begins here: close it with \"",
         Cause::Surrogate =>
             "this is half a character: write both halves, as \\ud83d\\ude00, or the character itself",
@@ -137,7 +138,7 @@ fn number_tail_words(first: u8) -> &'static str {
         b'%' => ": rates are parts of one, and 5 % is 0.05",
         b'\'' | b'_' => ": no sign stands between thousands",
         b'/' | b':' => "; a date is written \"2026-01-15\"",
-        _ => ": a number stands alone, and a text in double quotes",
+        _ => ": write the number alone, as 1250.75",
     }
 }
 
@@ -162,7 +163,7 @@ fn say_bare_word(message: &mut Message, text: &[u8], place: usize) {
     let word = word(text, place);
     say_word(message, text, place);
     if word.eq_ignore_ascii_case(b"true") || word.eq_ignore_ascii_case(b"false") {
-        message.say(" is written in small letters");
+        message.say(" is no JSON: write it in small letters");
     } else if is_nothing(word) {
         message.say(" is no JSON: what isn't given is null, or left out");
     } else if word.iter().any(|byte| byte.is_ascii_digit()) && !word.is_ascii() {
@@ -224,14 +225,15 @@ fn end_before(text: &[u8], place: usize) -> usize {
     0
 }
 
-/// Says which bracket is open, and where.
+/// Says which bracket is open, where, and what closes it.
 fn say_start(message: &mut Message, file: File<'_>, start: usize) {
+    message.say("\"");
     message.show(byte(file.bytes, start));
-    message.say(" of ");
+    message.say("\" of ");
     say_line_column(message, file, start);
     message.say(if byte_at(file.bytes, start) == b'{' {
-        ": } is missing"
+        " is still open: write \"}\""
     } else {
-        ": ] is missing"
+        " is still open: write \"]\""
     });
 }

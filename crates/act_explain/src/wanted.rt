@@ -296,7 +296,12 @@ pub(crate) fn say_wanted(message: &mut Message, form: Form) {
             );
         }
         Form::Choice(choices) => message.say_all(&["it is ", choices.told]),
-        Form::Name | Form::Contract => {
+        Form::Name => {
+            message.say(
+                "a code has 1 to 64 printable ASCII characters without a space, as EURIBOR12M",
+            );
+        }
+        Form::Contract => {
             message.say("a name has 1 to 64 printable ASCII characters without a space, as LOAN-8");
         }
         Form::Currency => {
@@ -317,9 +322,9 @@ pub(crate) fn say_wanted(message: &mut Message, form: Form) {
 const STRUCTURE: &str =
     "[{\"referenceType\": \"CID\", \"referenceRole\": \"UDL\", \"object\": \"LOAN-8\"}]";
 
-/// Says how a term is added.
-pub(crate) fn say_added(message: &mut Message, term: &str) {
-    message.say_all(&["add \"", term, "\": "]);
+/// Says how a term is written, behind what is to be done.
+pub(crate) fn say_added(message: &mut Message, what: &str, term: &str) {
+    message.say_all(&[what, " \"", term, "\": "]);
     match form_of(term) {
         Form::Structure => message.say(STRUCTURE),
         Form::Decimal => message.say(if is_rate(term) { "0.05" } else { "1000" }),
@@ -410,12 +415,13 @@ fn say_why_no_decimal(message: &mut Message, text: &[u8]) {
         _ if has(b',') =>
             "decimals stand behind a point, as 0.05, and no sign stands between thousands",
         _ if has(b'_') || has(b'\'') => "no sign stands between thousands, as 1250.75",
-        _ if has(b'e') || has(b'E') =>
+        _ if is_written(text) && (has(b'e') || has(b'E')) =>
             "a number is written 1250.75, and an exponent goes from -18 to 18",
         _ if text.ends_with(b".") || text.starts_with(b".") => {
             "a digit stands on either side of a point, as 0.05"
         }
-        _ => "it has digits, a point and a sign alone, as 1250.75 or -0.5",
+        _ =>
+            "write digits and a point alone, as 1250.75, without a blank, and a minus in front where it is below 0",
     });
 }
 
@@ -432,12 +438,14 @@ fn say_why_no_cycle(message: &mut Message, form: Form, text: &[u8]) {
         " is no cycle"
     });
     message.say(match text {
-        [b'P', b'T', ..] => " (it has no T, and no hours)",
-        [b'P', ..] if parse_period(text).is_ok() => " (its count is from 1 on)",
+        [b'P', b'T', ..] => " (take the T away, and there are no hours)",
+        [b'P', ..] if parse_period(text).is_ok() => " (write a count from 1 on)",
         [b'P', .., b'L'] | [b'P', .., b'L', b'2'..=b'9'] =>
             " (behind the unit stand L0, L1 or nothing)",
-        [b'p', ..] => " (it has capital letters)",
-        [b'0'..=b'9', ..] => " (a P stands before its count)",
+        [b'p', ..] => " (write it in capital letters)",
+        [b'0'..=b'9', .., b'-'] => " (write P before it, and L1 in place of the minus)",
+        [b'0'..=b'9', .., b'+'] => " (write P before it, and L0 in place of the plus)",
+        [b'0'..=b'9', ..] => " (write P before its count)",
         _ => "",
     });
     message.say("; ");
@@ -448,7 +456,7 @@ fn say_why_no_cycle(message: &mut Message, form: Form, text: &[u8]) {
 fn say_why_no_choice(alloc: Global, message: &mut Message, choices: Choices, text: &[u8]) {
     for word in choices.words {
         if text.eq_ignore_ascii_case(word.as_bytes()) {
-            return message.say_all(&[" is written in capital letters: \"", word, "\""]);
+            return message.say_all(&[" has to be in capital letters: \"", word, "\""]);
         }
     }
     message.say(" is none of the words that there are");

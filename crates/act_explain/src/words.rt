@@ -11,36 +11,30 @@ pub struct Identity<'a> {
     pub kit: &'a str,
 }
 
-/// A command: its name, and what is said where its words are of no form.
+/// A command, and what is said where its words are of another form.
 #[derive(Clone, Copy)]
 struct Command {
     name: &'static str,
     words: &'static str,
-    /// Whether its first word is a number, and what is said of it.
-    number: &'static str,
 }
 
 /// The commands.
 const COMMANDS: [Command; 4] = [
     Command {
         name: "eval",
-        words: "eval has one portfolio file, and behind it at most one script file; several scripts at once have desk",
-        number: "",
+        words: "eval needs a portfolio file, and takes at most one script file; for several scripts there is desk, as in desk 4 P S1 S2",
     },
     Command {
         name: "check",
-        words: "check has one portfolio file, and nothing behind it",
-        number: "",
+        words: "check needs a portfolio file, and takes nothing behind it",
     },
     Command {
         name: "desk",
-        words: "desk has the number of workers, a portfolio file and 1 to 16 script files, as in desk 4 P S1 S2",
-        number: "the number of workers is from 1 to 64, without sign and leading zero",
+        words: "desk needs the number of workers, a portfolio file and 1 to 16 script files, as in desk 4 P S1 S2; without a script there is eval P",
     },
     Command {
         name: "big",
-        words: "big has a size from 1 to 1,000 and a number of workers from 1 to 64, as in big 100 4",
-        number: "numbers have no sign and no leading zero",
+        words: "big needs a size from 1 to 1,000 and a number of workers from 1 to 64, without a sign or a zero in front, as in big 100 4",
     },
 ];
 
@@ -120,11 +114,15 @@ fn say_amiss(alloc: Global, message: &mut Message, word: &str, others: &[String]
     message.say("actus: ");
     for command in COMMANDS {
         if command.name == word {
-            message.say(command.words);
-            if let (Some(first), false) = (others.first(), command.number.is_empty()) {
-                message.say_all(&["; ", command.number, ", and \""]);
-                message.show(first.as_bytes());
-                message.say("\" stands first");
+            match others.first() {
+                Some(first) if word == "desk" && !is_worker_count(first.as_bytes()) => {
+                    message.say(
+                        "desk needs the number of workers first, from 1 to 64 without a sign or a zero in front, and \"",
+                    );
+                    message.show(first.as_bytes());
+                    message.say("\" stands there");
+                }
+                _ => message.say(command.words),
             }
             return message.say("\n\n");
         }
@@ -141,6 +139,14 @@ fn say_amiss(alloc: Global, message: &mut Message, word: &str, others: &[String]
         }
     }
     message.say("\n\n");
+}
+
+/// Whether a word is a number of workers.
+fn is_worker_count(word: &[u8]) -> bool {
+    matches!(
+        word,
+        [b'1'..=b'9'] | [b'1'..=b'5', b'0'..=b'9'] | [b'6', b'0'..=b'4']
+    )
 }
 
 /// The command that a word is like, if it is like one.
