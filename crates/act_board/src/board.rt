@@ -166,6 +166,11 @@ impl Board {
         cuts_between(alloc, &self.portfolio, &mut self.book, one, other)
     }
 
+    /// How many evaluations may be claimed, unless the board was given up: a hint of how many a thread may take at once.
+    pub fn claimable(&self) -> usize {
+        self.ready.places.len()
+    }
+
     /// How many asks of a caller are open.
     pub fn open_asks(&self, caller: u32) -> u32
         requires from { 1 ≤ caller }

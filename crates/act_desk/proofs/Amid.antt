@@ -4,7 +4,7 @@ use Rattle.std.specs.Prelude.{map, not}
 use Rattle.std.specs.List.{All, count_by, slice_get}
 use Rattle.std.proofs.Math.Seq.{drop-append-add, take-suc}
 use Rattle.std.proofs.lemmas.List.{get_or-drop, length-append, length-drop, map-append, take-append-le}
-use Rattle.std.proofs.lemmas.List.Elements.{All-head, All-nil, All-push, All-tail, All-take, All-weaker}
+use Rattle.std.proofs.lemmas.List.Elements.{All-head, All-push, All-tail, All-take, All-weaker}
 use Rattle.std.proofs.lemmas.Option.{get_or_from_slice_get, slice_get_within}
 use Rattle.act_model.specs.Answer.{Reply}
 use Rattle.act_model.specs.Journal.{contracts_of, is_append}
@@ -16,7 +16,7 @@ use Rattle.act_model.specs.declared.journal.Step.TheVariants as step
 use Rattle.act_model.specs.declared.observed.Obs.{Obs}
 use Rattle.act_profile.specs.Answers.{answer_to}
 use Rattle.act_profile.specs.Run.{Contracts, run_of}
-use Rattle.act_history.specs.History.{History, IsPresent, and_then, appended_by, asks_by, collected_by, entries_of, is_append_by, is_collect_by, version_of}
+use Rattle.act_history.specs.History.{History, and_then, appended_by, asks_by, collected_by, entries_of, is_append_by, is_collect_by, version_of}
 use Rattle.act_history.specs.Legal.{IsOldest}
 use Rattle.act_history.specs.declared.mark.Mark.{Mark}
 use Rattle.act_history.specs.declared.mark.Mark.TheVariants as mark

@@ -1,9 +1,11 @@
 pub mod Adds
 pub mod Amid
 pub mod Goes
+pub mod Lines
 pub mod Making
 pub mod Own
 pub mod Stays
 pub mod Taken
+pub mod Turns
 pub mod Watching
 pub mod Way

@@ -1,5 +1,5 @@
 -- A caller on its way through its lines: what each step makes of what is so of its pass.
-use Rattle.std.proofs.Common.{◌≡◌, ℕ, ◌≤◌, false, List, [], ◌∷◌, ◌++◌, length, take, Some, Ok, ⊎_elim, refl, sym, ap, subst, ◌∙◌, append-nil, append_assoc, arith, eq-eqb}
+use Rattle.std.proofs.Common.{◌≡◌, ℕ, ◌≤◌, false, List, [], ◌∷◌, ◌++◌, length, take, Some, Ok, refl, sym, ap, subst, ◌∙◌, append-nil, append_assoc, arith, eq-eqb}
 use Rattle.std.specs.Prelude.{map}
 use Rattle.std.specs.List.{All, count_by, filter_map, list_any}
 use Rattle.std.proofs.lemmas.List.{length-append, map-append, take_all}
@@ -25,7 +25,7 @@ use Rattle.act_history.specs.declared.mark.Mark.TheVariants as mark
 use Rattle.act_board.specs.declared.outcome.Collected.TheVariants as collected
 use Rattle.act_history.proofs.Going.{any-not, asks-same, count-not, count-yes, entries-same}
 use Rattle.act_desk.specs.Calls.{Appends, Asks, CollectsOrNot, Leaves}
-use Rattle.act_desk.specs.Making.{HasCollected, HasMade, HasStopped, HasWatched, IsAmid, IsMaking, MayHaveCollected, MayMake, asks, item_by}
+use Rattle.act_desk.specs.Making.{HasCollected, HasMade, HasStopped, HasWatched, IsAmid, IsMaking, MayMake, asks, item_by}
 use Rattle.act_desk.specs.Step.{HasSeen, IsStep}
 use Rattle.act_desk.proofs.Amid.{amid-append, amid-ask, amid-collect, amid-stays}
 use Rattle.act_desk.proofs.Goes.{GoesOnBeside}
@@ -148,7 +148,7 @@ module _ {A : Type 0} {kept_of : Reply → A} {first : Standing Entry} {i : ℕ}
         collects (any-not (is_leave_by i) is.marks m stays ∙ is.stays)
 
     -- a step more, of a line
-    making-line : (m : Mark) (Call : History → History → Type 0) (line : Line) → caller_of m ≡ Some i → is_collect_by i m ≡ false → is_leave_by i m ≡ false → item_of m ≡ Some (item_by i line)
+    pub making-line : (m : Mark) (Call : History → History → Type 0) (line : Line) → caller_of m ≡ Some i → is_collect_by i m ≡ false → is_leave_by i m ≡ false → item_of m ≡ Some (item_by i line)
         → ((found after : History) → Call found after → after ≡ and_then found m) → ((found : History) → IsAmid kept_of is.start i done answers found → IsAmid kept_of is.start i (done ++ line ∷ []) answers (and_then found m))
         → IsStep old Call new → IsMaking kept_of first i (done ++ line ∷ []) answers new
     making-line m Call line mine collects leaves item adds amid next =
@@ -192,9 +192,6 @@ module _ {A : Type 0} {kept_of : Reply → A} {first : Standing Entry} {i : ℕ}
     making-collect got =
         let watched = making-watched is got.1.watched in
         making-as refl got.2 refl (collect-step watched (all-collected watched may) got.0 got.1.step)
-
-    pub making-room : MayHaveCollected kept_of old i answers new now-answers → IsMaking kept_of first i done now-answers new
-    making-room got = ⊎_elim (λ one. making-collect one) (λ same. making-as refl same.1 same.0 is) got
 
 -- ---- the end
 

@@ -2,3 +2,4 @@ pub mod Calls
 pub mod Desk
 pub mod Making
 pub mod Step
+pub mod Turns

@@ -1,5 +1,5 @@
 -- What a caller makes of the lines of its script, and what a pass watches. This profile's own.
-use Rattle.std.specs.Prelude.{◌≡◌, ◌⊎◌, ℕ, suc, ◌+◌, ◌≤◌, not, Bool, true, false, List, [], ◌∷◌, ◌++◌, length, map, take, Ok, Some}
+use Rattle.std.specs.Prelude.{◌≡◌, ℕ, suc, ◌+◌, ◌≤◌, not, Bool, true, false, List, [], ◌∷◌, ◌++◌, length, map, take, Ok, Some}
 use Rattle.std.specs.List.{All, count_by, filter_map, list_any, slice_get}
 use mathlib.Core.List.{IsPrefix}
 use Rattle.act_model.specs.Answer.{Reply}
@@ -92,12 +92,9 @@ pub record HasCalled (old : Standing Entry) (Call : History → History → Type
   pub watched : HasWatched old between
   pub step : IsStep between Call new
 
--- it has watched, and then collected an answer of the caller, of which what is kept stands behind what it had; or it hasn't
+-- it has watched, and then collected an answer of the caller, of which what is kept stands behind what it had
 abbrev pub HasCollected : {A : Type 0} → (Reply → A) → Standing Entry → ℕ → List A → Standing Entry → List A → Type 0
 HasCollected kept_of old i had new has = (answer : Reply) × HasCalled old (CollectsOrNot i (Ok (Ready answer))) new × (has ≡ had ++ kept_of answer ∷ [])
-
-abbrev pub MayHaveCollected : {A : Type 0} → (Reply → A) → Standing Entry → ℕ → List A → Standing Entry → List A → Type 0
-MayHaveCollected kept_of old i had new has = HasCollected kept_of old i had new has ⊎ ((new ≡ old) × (has ≡ had))
 
 -- What a caller has made of the lines of its script. Its own entries go on with the steps of the lines in their order, with a Collect
 -- for each ask of them, and with a Leave at the end. It has what is kept of the answer to each of these asks, in their order: each
@@ -160,3 +157,13 @@ pub record IsMaking {A : Type 0} (kept_of : Reply → A) (old : Standing Entry) 
   pub steps : filter_map item_of marks ≡ map (item_by i) done
   pub collects : count_by (is_collect_by i) marks ≡ length answers
   pub stays : list_any (is_leave_by i) marks ≡ false
+
+-- a caller on its way through its lines is so still, whatever it has made of them, with other answers
+abbrev pub Brings : {A : Type 0} → (Reply → A) → ℕ → Standing Entry → List A → Standing Entry → List A → Type 0
+Brings kept_of i old had new has =
+    (first : Standing Entry) (lines done : List Line) → HasSeen first (λ history. MayMake history i lines) → IsMaking kept_of first i done had old → IsMaking kept_of first i done has new
+
+-- a caller is on its way through lines
+abbrev pub IsOnWay : {A : Type 0} → (Reply → A) → Desk → ℕ → Standing Entry → List A → Type 0
+IsOnWay kept_of desk i pass answers =
+    (first : Standing Entry) × (lines : List Line) × (done : List Line) × IsAt desk i first × HasSeen first (λ history. MayMake history i lines) × IsMaking kept_of first i done answers pass

@@ -1,31 +1,32 @@
 //! Callers.
-ghost use Rattle.std.specs.Prelude.{◌≡◌, ◌≤◌, ◌<◌, ◌+◌, ℕ, [], true, length, take, count_by, Ok, IfErr, IfOk};
+ghost use Rattle.std.specs.Prelude.{◌≡◌, ◌≤◌, ◌<◌, ℕ, [], true, length, take, count_by, Ok, IfErr, IfOk};
 ghost use mathlib.Core.List.{IsPrefix};
-ghost use Rattle.act_model.specs.Observed.{is_entry};
-ghost use Rattle.act_model.specs.Journal.{is_known};
-ghost use Rattle.act_model.specs.declared.journal.Step.TheVariants.{Ask};
 ghost use Rattle.act_turn.specs.Standing.{IsFree};
 ghost use Rattle.act_history.specs.History.{IsPresent, open_asks};
-ghost use Rattle.act_history.specs.Legal.{HasQuota, IsFull};
 ghost use Rattle.act_board.specs.declared.outcome.Collected.TheVariants.{Ready};
-ghost use Rattle.act_desk.specs.Calls.{Appends, Asks, CollectsOrNot};
-ghost use Rattle.act_desk.specs.Making.{HasCalled, HasCollected, HasGivenUp, HasMade, HasStopped, HasWatched, IsAt, IsMaking, MayHaveCollected, MayMake, asks};
+ghost use Rattle.act_desk.specs.Calls.{CollectsOrNot};
+ghost use Rattle.act_desk.specs.Making.{Brings, HasCalled, HasCollected, HasGivenUp, HasMade, HasStopped, HasWatched, IsAt, IsMaking, IsOnWay, MayMake, asks};
 ghost use Rattle.act_desk.specs.Step.{HasSeen, IsStep};
 
 use crate::context::Context;
 use crate::desk::{Desk, DeskPass};
 use crate::from_answer::FromAnswer;
+use crate::outcome::StepFault;
+use crate::steps::asks_in;
 use crate::working::Work;
-use act_board::{AppendFault, AskFault, Collected};
+use act_board::{AskFault, Collected};
 use act_io::Gate;
-use act_model::{Answer, Asked, Line, MOST_OPEN, Obs, Step};
+use act_model::{Answer, Line, MOST_OPEN};
 use act_num::NoMemory;
 use std::sync::Wait;
 
+/// How many steps a caller makes at most in one turn.
+const MOST_STEPS: usize = 256;
+
 impl Desk {
-    /// A caller makes the steps of its lines in their order, and leaves. Before an ask it collects its oldest answer where 256 asks
-    /// are open, and at the end it collects the others; an answer that isn't ready it waits for, and makes evaluations meanwhile. It
-    /// answers what is kept, `A`, of the answers to the asks, in their order; an answer goes once that is made. Where memory runs out
+    /// A caller makes the steps of its lines in their order, many in a turn, and leaves. Where 256 asks are open it collects the
+    /// answers to half of them before the next, and at the end it collects the others; an answer that isn't ready it waits for, and
+    /// makes evaluations meanwhile. It answers what is kept, `A`, of the answers to the asks, in their order; an answer goes once that is made. Where memory runs out
     /// it gives up, and where somebody else has given up it answers want of memory too; it has left then.
     pub fn caller_keeping<R: Wait, G: Gate, A: FromAnswer>(
         &self,
@@ -74,87 +75,62 @@ impl Desk {
         ensures all { IfOk result (λ _. length answers.new.items ≡ count_by asks lines.now) }
         ensures some { IfErr result (λ _. (done : ℕ) × IsMaking A.kept_of pass.old caller (take done lines.now) answers.new.items pass.new) }
     {
-        let mut asked = 0;
-        for line in lines {
-            match line.step {
-                Step::Append(entry) => self.make_append(context.rt, pass, caller, entry)?,
-                Step::Ask(ask) => {
-                    self.make_room(context, pass, caller, asked, answers)?;
-                    self.make_ask(context.rt, pass, caller, ask)?;
-                    asked += 1;
-                }
-            }
-        }
+        self.make_lines(context, pass, caller, lines, answers)?;
+        let asked = asks_in(lines);
         'rest: while answers.len() < asked {
             self.collect_next(context, pass, caller, answers)?;
         }
         Ok(())
     }
 
-    /// Appends an entry, for which the caller has quota.
-    fn make_append<R: Wait>(
-        &self,
-        rt: &R,
-        pass: &mut DeskPass,
-        caller: u32,
-        entry: Obs,
-    ) -> Result<(), NoMemory>
-        requires at { IsAt self.now caller pass.old }
-        requires present { HasSeen pass.old (λ history. IsPresent history caller) }
-        requires quota { HasSeen pass.old (λ history. HasQuota history caller) }
-        requires entry { is_entry entry ≡ true }
-        ensures appended { IfOk result (λ _. (version : ℕ) × IsStep pass.old (Appends caller entry (Ok version)) pass.new) }
-        ensures watched { IfErr result (λ _. HasWatched pass.old pass.new) }
-    {
-        match self.append(rt, pass, caller, entry) {
-            Ok(_) => Ok(()),
-            Err(AppendFault::NoMemory | AppendFault::GivenUp) => Err(NoMemory),
-            Err(AppendFault::QuotaSpent) => unreachable!(),
-        }
-    }
-
-    /// Makes an ask, for which there is room.
-    fn make_ask<R: Wait>(
-        &self,
-        rt: &R,
-        pass: &mut DeskPass,
-        caller: u32,
-        asked: Asked,
-    ) -> Result<(), NoMemory>
-        requires at { IsAt self.now caller pass.old }
-        requires present { HasSeen pass.old (λ history. IsPresent history caller) }
-        requires room { HasSeen pass.old (λ history. ¬ (IsFull history caller)) }
-        requires known { HasSeen pass.old (λ history. is_known history.portfolio.names (Ask asked) ≡ true) }
-        ensures asked { IfOk result (λ _. (number : ℕ) × IsStep pass.old (Asks caller asked (Ok number)) pass.new) }
-        ensures watched { IfErr result (λ _. HasWatched pass.old pass.new) }
-    {
-        match self.ask(rt, pass, caller, asked) {
-            Ok(_) => Ok(()),
-            Err(AskFault::NoMemory | AskFault::GivenUp) => Err(NoMemory),
-            Err(AskFault::AsksFull) => unreachable!(),
-        }
-    }
-
-    /// Collects an answer where as many of the asks that were made are open as may be.
-    fn make_room<R: Wait, G: Gate, A: FromAnswer>(
+    /// Makes the steps of lines, many in a turn. Where as many asks are open as may be, it collects the answers to half of them first.
+    fn make_lines<R: Wait, G: Gate, A: FromAnswer>(
         &self,
         context: &Context<'_, R, G>,
         pass: &mut DeskPass,
         caller: u32,
-        asked: usize,
+        lines: &[Line],
         answers: &mut Vec<A>,
     ) -> Result<(), NoMemory>
         requires at { IsAt self.now caller pass.old }
-        requires present { HasSeen pass.old (λ history. IsPresent history caller) }
-        requires open { HasSeen pass.old (λ history. length (open_asks history caller) + length answers.old.items ≡ asked) }
-        requires few { asked ≤ length answers.old.items + MOST_OPEN }
-        ensures collected { IfOk result (λ _. MayHaveCollected A.kept_of pass.old caller answers.old.items pass.new answers.new.items) }
-        ensures room { IfOk result (λ _. asked < length answers.new.items + MOST_OPEN) }
-        ensures watched { IfErr result (λ _. HasWatched pass.old pass.new) }
-        ensures kept { IfErr result (λ _. answers.new.items ≡ answers.old.items) }
+        requires lines { HasSeen pass.old (λ history. MayMake history caller lines.now) }
+        requires none { answers.old.items ≡ [] }
+        ensures made { IfOk result (λ _. IsMaking A.kept_of pass.old caller lines.now answers.new.items pass.new) }
+        ensures some { IfErr result (λ _. (done : ℕ) × IsMaking A.kept_of pass.old caller (take done lines.now) answers.new.items pass.new) }
     {
-        if asked - answers.len() == MOST_OPEN {
-            return self.collect_next(context, pass, caller, answers);
+        let mut made = 0;
+        for _ in context.rt.forever() {
+            if made == lines.len() {
+                return Ok(());
+            }
+            let count = (lines.len() - made).min(MOST_STEPS);
+            let turn = self.make_steps(context.rt, pass, caller, &lines[made..made + count]);
+            made += turn.steps;
+            match turn.fault {
+                None => {}
+                Some(StepFault::Ask(AskFault::AsksFull)) => {
+                    self.collect_half(context, pass, caller, answers)?;
+                }
+                Some(_) => return Err(NoMemory),
+            }
+        }
+        unreachable!()
+    }
+
+    /// Collects the answers to half of as many asks as may be open.
+    fn collect_half<R: Wait, G: Gate, A: FromAnswer>(
+        &self,
+        context: &Context<'_, R, G>,
+        pass: &mut DeskPass,
+        caller: u32,
+        answers: &mut Vec<A>,
+    ) -> Result<(), NoMemory>
+        requires way { IsOnWay A.kept_of self.now caller pass.old answers.old.items }
+        requires open { HasSeen pass.old (λ history. MOST_OPEN ≤ length (open_asks history caller)) }
+        ensures { Brings A.kept_of caller pass.old answers.old.items pass.new answers.new.items }
+    {
+        for _ in 0..MOST_OPEN / 2 {
+            self.collect_next(context, pass, caller, answers)?;
         }
         Ok(())
     }
@@ -194,16 +170,17 @@ impl Desk {
         ensures collected { IfOk result (λ answer. HasCalled pass.old (CollectsOrNot caller (Ok (Ready answer))) pass.new) }
         ensures watched { IfErr result (λ _. HasWatched pass.old pass.new) }
     {
+        let mut dones = Vec::new(context.alloc);
         for _ in context.rt.forever() {
             let rings = self.results.rings();
             match self.collect(context.rt, pass, caller)? {
                 Collected::Ready(answer) => return Ok(answer),
                 Collected::GivenUp => return Err(NoMemory),
-                Collected::NotYet => {
-                    if self.work(context, pass)? == Work::None {
-                        self.results.sleep(context.rt, rings);
-                    }
-                }
+                Collected::NotYet => match self.work(context, pass, &mut dones)? {
+                    Work::Made => self.finish_all(context.rt, pass, &mut dones),
+                    Work::None => self.results.sleep(context.rt, rings),
+                    Work::Over => {}
+                },
             }
         }
         unreachable!()

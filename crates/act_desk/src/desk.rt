@@ -1,5 +1,5 @@
 //! The desk.
-ghost use Rattle.std.specs.Prelude.{◌≡◌, ◌⊎◌, ◌+◌, ◌<◌, ◌≤◌, true, [], All, Any, length, sum, vec_len, IfOk};
+ghost use Rattle.std.specs.Prelude.{◌≡◌, ◌⊎◌, ◌+◌, ◌<◌, ◌≤◌, true, [], All, Any, length, sum, vec_capacity, vec_len, IfOk};
 ghost use Rattle.std.specs.Arc.{arc_value};
 ghost use mathlib.Core.List.{IsPrefix};
 ghost use Rattle.act_model.specs.Journal.{is_known};
@@ -11,14 +11,19 @@ ghost use Rattle.act_board.specs.Calls.{IsOf};
 ghost use Rattle.act_board.specs.Entries.{author_of, list_of};
 ghost use Rattle.act_history.specs.History.{IsPresent, is_given_up, open_asks};
 ghost use Rattle.act_desk.specs.Calls.{Appends, Asks, ClaimsOrNot, CollectsOrNot, Finishes, GivesUp, Leaves};
+ghost use Rattle.act_desk.specs.Making.{asks_known};
 ghost use Rattle.act_desk.specs.Step.{HasSeen, IsStep, opening};
+ghost use Rattle.act_desk.specs.Turns.{FinishesAndClaims, FromLast, IsTurn, Makes};
+ghost use Rattle.act_model.specs.Journal.{appends_entry};
+ghost use Rattle.act_model.specs.declared.journal.Line.{Line};
 
-use crate::bell::Bell;
+use crate::outcome::{Claimed, Made};
+use crate::steps::{asks_in, finish_and_claim, finish_each, make_each};
 use act_board::{AppendFault, AskFault, Board, Claim, Collected, Done, Task};
-use act_model::{Asked, MOST_CALLERS, MOST_ENTRIES, MOST_WORKERS, Obs};
+use act_model::{Asked, Line, MOST_CALLERS, MOST_ENTRIES, MOST_WORKERS, Obs};
 use act_num::NoMemory;
 use act_portfolio::Portfolio;
-use act_turn::{NewFault, Pass, Turn};
+use act_turn::{Bell, NewFault, Pass, Turn};
 use std::alloc::Global;
 use std::marker::Model;
 use std::sync::{Arc, Wait};
@@ -32,6 +37,8 @@ pub type DeskPass = Pass<Board>;
 pub struct Desk {
     turn: Turn<Board>,
     pub(crate) portfolio: Arc<Portfolio, Global>,
+    /// How many callers and workers there are.
+    threads: u32,
     /// Rings where an evaluation may be claimed that couldn't be before, or none will come.
     pub(crate) tasks: Bell,
     /// Rings where an answer may be ready that wasn't, or none will come.
@@ -74,6 +81,7 @@ impl Desk {
                 let desk = Desk {
                     turn,
                     portfolio,
+                    threads: seats,
                     tasks: Bell::new(),
                     results: Bell::new(),
                 };
@@ -124,6 +132,28 @@ impl Desk {
         answer
     }
 
+    /// A caller makes the steps of lines in one turn, in their order, up to the first that is refused.
+    pub fn make_steps<R: Wait>(
+        &self,
+        rt: &R,
+        pass: &mut DeskPass,
+        caller: u32,
+        lines: &[Line],
+    ) -> Made
+        requires free { IsFree self.now.id pass.old }
+        requires own { pass.old.number ≡ caller }
+        requires present { HasSeen pass.old (λ history. IsPresent history caller) }
+        requires entries { All (λ (line : Line). appends_entry line.step ≡ true) lines.now }
+        requires known { HasSeen pass.old (λ history. All (λ (line : Line). asks_known history.portfolio.names line.step ≡ true) lines.now) }
+        ensures { IsTurn pass.old (Makes caller lines.now result) pass.new }
+    {
+        let mut held = self.turn.take(rt, pass);
+        let made = make_each(held.get_mut(), caller, lines);
+        self.turn.give(pass, held);
+        self.tell(false, asks_in(lines) > 0);
+        made
+    }
+
     /// Hands out the evaluation that is next, as `Board::claim` does.
     pub fn claim<R: Wait>(&self, rt: &R, pass: &mut DeskPass) -> Result<Claim, NoMemory>
         requires { IsFree self.now.id pass.old }
@@ -147,6 +177,44 @@ impl Desk {
         self.turn.give(pass, held);
         self.tasks.ring_one();
         self.results.ring_all();
+    }
+
+    /// Takes evaluations in one turn that were made of the history that the pass has seen, the last first, each as `finish` does.
+    pub fn finish_all<R: Wait>(&self, rt: &R, pass: &mut DeskPass, dones: &mut Vec<Done>)
+        requires free { IsFree self.now.id pass.old }
+        requires dones { HasSeen pass.old (λ history. All (IsOf history) dones.old.items) }
+        ensures turn { IsTurn pass.old (FromLast Finishes dones.old.items) pass.new }
+        ensures none { dones.new.items ≡ [] }
+    {
+        let mut held = self.turn.take(rt, pass);
+        finish_each(held.get_mut(), dones);
+        self.turn.give(pass, held);
+        self.tell(true, true);
+    }
+
+    /// Takes evaluations in one turn that were made of the history that the pass has seen, the last first, and hands out those that
+    /// are next: one, and several where as many are left for each of the other threads.
+    pub fn finish_and_claim<R: Wait>(
+        &self,
+        rt: &R,
+        pass: &mut DeskPass,
+        dones: &mut Vec<Done>,
+        tasks: &mut Vec<Task>,
+    ) -> Result<Claimed, NoMemory>
+        requires free { IsFree self.now.id pass.old }
+        requires dones { HasSeen pass.old (λ history. All (IsOf history) dones.old.items) }
+        requires none { tasks.old.items ≡ [] }
+        requires room { 0 < vec_capacity tasks.old }
+        ensures turn { IsTurn pass.old (FinishesAndClaims dones.old.items tasks.new.items result) pass.new }
+        ensures none { dones.new.items ≡ [] }
+    {
+        let has_results = !dones.is_empty();
+        let mut held = self.turn.take(rt, pass);
+        let claimed = finish_and_claim(held.get_mut(), dones, tasks, self.threads);
+        let has_tasks = held.get().claimable() > 0;
+        self.turn.give(pass, held);
+        self.tell(has_results, has_tasks);
+        claimed
     }
 
     /// Gives the board up, for want of memory; a task that is handed in is dropped.
@@ -195,6 +263,16 @@ impl Desk {
         self.tasks.ring_all();
     }
 
+    /// Rings after a turn: for all that wait for results, where there may be some, and for one that waits for tasks.
+    fn tell(&self, has_results: bool, has_tasks: bool) {
+        if has_results {
+            self.results.ring_all();
+        }
+        if has_tasks {
+            self.tasks.ring_one();
+        }
+    }
+
     /// Ends the desk, whose passes these all are, and answers the board.
     pub fn close(self, passes: Vec<DeskPass>) -> Board
         requires all { vec_len passes ≡ self.seats }
@@ -206,6 +284,7 @@ impl Desk {
         let Desk {
             turn,
             portfolio,
+            threads: _,
             tasks,
             results,
         } = self;

@@ -13,7 +13,7 @@ use act_num::NoMemory;
 use std::sync::Wait;
 
 impl Desk {
-    /// A worker makes one evaluation after another, until all callers have left and nothing that is wanted lacks a result. Where none
+    /// A worker makes evaluations, one after another, and hands them in as it claims the next ones, until all callers have left and nothing that is wanted lacks a result. Where none
     /// may be made it sleeps until that may have changed. It gives up where memory runs out, and ends where somebody else has.
     pub fn worker<R: Wait, G: Gate>(
         &self,
@@ -26,13 +26,15 @@ impl Desk {
         ensures ended { IfOk result (λ _. HasSeen pass.new IsOver) }
         ensures given_up { IfErr result (λ _. HasSeen pass.new (λ history. is_given_up history ≡ true)) }
     {
+        let mut dones = Vec::new(context.alloc);
         for _ in context.rt.forever() {
             let rings = self.tasks.rings();
-            match self.work(context, pass) {
+            match self.work(context, pass, &mut dones) {
                 Ok(Work::Made) => {}
                 Ok(Work::None) => self.tasks.sleep(context.rt, rings),
                 Ok(Work::Over) => return Ok(()),
                 Err(NoMemory) => {
+                    drop(dones);
                     self.give_up(context.rt, pass, None);
                     return Err(NoMemory);
                 }

@@ -20,7 +20,7 @@ use act_job::Job;
 use act_model::Answer;
 use act_num::NoMemory;
 use act_session::{Session, session};
-use act_transcript::{Blocks, answer_count, stops_of, write_answers, write_heads};
+use act_transcript::{Blocks, SideBySide, answer_count, stops_of, write_answers_by, write_heads};
 use std::alloc::Global;
 use std::sync::{Arc, Wait};
 use std::thread::Threads;
@@ -53,7 +53,7 @@ pub(crate) fn run_desk<'a, R: Threads + Wait + Sync, F: Files, K: Sink, G: Gate>
     let alloc = context.alloc;
     let job = Job::read(alloc, files, desk.workers, desk.portfolio, desk.scripts)?;
     let played = play(context, &job)?;
-    Ok(write_played(alloc, out, job, played)?)
+    Ok(write_played(context, out, job, played)?)
 }
 
 /// What callers and workers play of a job, with what is kept of the answers.
@@ -69,8 +69,8 @@ pub(crate) fn play<R: Threads + Wait + Sync, G: Gate, A: FromAnswer>(
 }
 
 /// Writes what was played of a job.
-fn write_played<K: Sink>(
-    alloc: Global,
+fn write_played<R: Threads + Sync, K: Sink, G: Gate>(
+    context: &Context<'_, R, G>,
     out: &mut K,
     job: Job,
     played: Session<Answer>,
@@ -81,7 +81,7 @@ fn write_played<K: Sink>(
     ensures status { IfOk result (λ ran. ran.status ≡ answers_status (answers_of job.portfolio.contracts job.scripts.names (journal_of played.board))) }
 {
     let Session { mut board, answers } = played;
-    let written = write_run(alloc, out, &job, &mut board, &answers);
+    let written = write_run(context, out, &job, &mut board, &answers);
     let stops = stops_of(&answers);
     drop(answers);
     match written {
@@ -99,8 +99,8 @@ fn write_played<K: Sink>(
 }
 
 /// Writes the journal of a board on which a job's scripts were played, and the answers to its asks, caller after caller.
-fn write_run<K: Sink>(
-    alloc: Global,
+fn write_run<R: Threads + Sync, K: Sink, G: Gate>(
+    context: &Context<'_, R, G>,
     out: &mut K,
     job: &Job,
     board: &mut Board,
@@ -115,7 +115,11 @@ fn write_run<K: Sink>(
     let names = &job.scripts.names;
     let journal = board.journal();
     let count = answer_count(answers);
-    let mut blocks = Blocks::new(alloc, names, job.portfolio.named() as usize, count)?;
+    let mut blocks = Blocks::new(context.alloc, names, job.portfolio.named() as usize, count)?;
     write_heads(out, &mut blocks.line, names, journal, count)?;
-    write_answers(out, &mut blocks, board, answers)
+    let way = SideBySide {
+        rt: context.rt,
+        threads: job.workers as usize,
+    };
+    write_answers_by(&way, out, &mut blocks, board, answers)
 }

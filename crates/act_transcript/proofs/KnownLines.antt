@@ -56,6 +56,15 @@ same-cut None (Some day) is = absurd (cc)
 same-cut (Some day) None is = absurd (cc)
 same-cut (Some one) (Some other) is = cc
 
+-- one more is told
+pub told-next : (P : ℕ → Option ℤ → Type 0) (known : List Known) (place : ℕ) (new : Known) → place < length known → ((cut : Option ℤ) → new ≡ known_to cut → P place cut)
+    → ((c : ℕ) (cut : Option ℤ) → c < place → slice_get known c ≡ Some (known_to cut) → P c cut)
+    → (c : ℕ) (cut : Option ℤ) → c < place + 1 → slice_get (set known place new) c ≡ Some (known_to cut) → P c cut
+told-next P known place new within told before c cut below is = elim (cases_eq c place) [
+  | inl same ↦ subst (λ (d : ℕ). P d cut) (sym same) (told cut (same_Some new (known_to cut) (sym (get-set known place new within) ∙ (ap (slice_get (set known place new)) (sym same) ∙ is))))
+  | inr other ↦ before c cut (omega (arith, other)) (sym (get-set_other known place c new other) ∙ is)
+]
+
 -- of a contract for which a cut is told, the rows of its run stand by their days, and its lines are known
 pub order-here : (known read : List Known) (kept : List Lines) (c : ℕ) (run : Stream) (told : Known) → IsKnown known kept c run → read ≡ known → ((cut : Option ℤ) → told ≡ known_to cut → slice_get read c ≡ Some (known_to cut))
     → (cut : Option ℤ) → told ≡ known_to cut → AreInDayOrder run.rows
@@ -117,7 +126,7 @@ same-whole : (before run : Stream) → kept_of before None ≡ kept_of run None 
 same-whole before run same = sym (kept-whole before) ∙ ap run-kept same ∙ kept-whole run
 
 -- the block of a run is known to it
-own-known : (c : ℕ) (run : Stream) (lines : Lines) (cut : Option ℤ) → AreInDayOrder run.rows → IsBlock c run lines → IsKnownTo c cut lines run
+pub own-known : (c : ℕ) (run : Stream) (lines : Lines) (cut : Option ℤ) → AreInDayOrder run.rows → IsBlock c run lines → IsKnownTo c cut lines run
 own-known c run lines cut order is = record {
   front = is.front;
   within = omega (arith, kept-within run cut order, ap length is.rows);

@@ -1,3 +1,4 @@
+pub mod Beside
 pub mod Ends
 pub mod KnownLines
 pub mod Text

@@ -1,5 +1,5 @@
 //! Writing answers.
-ghost use Rattle.std.specs.Prelude.{◌≡◌, ◌≤◌, ◌<◌, ◌^◌, ℕ, length, IfOk, IfSome, IsTrue, OnOk};
+ghost use Rattle.std.specs.Prelude.{⊤, ◌≡◌, ◌≤◌, ◌<◌, ◌^◌, ℕ, None, length, IfOk, IfSome, IsTrue, OnOk};
 ghost use Rattle.std.specs.Arc.{arc_value};
 ghost use Rattle.std.specs.List.{All};
 ghost use Rattle.act_engine.specs.Writing.{Writes};
@@ -22,6 +22,48 @@ use act_print::answer_head;
 use std::alloc::Global;
 use std::sync::Arc;
 
+/// In which way an answer is written, whose blocks' lines are known so far at its version.
+pub trait Way {
+    /// Whether it is open: the threads that it takes may share what makes them.
+    ghost is_open: { Self → Type 0 };
+
+    /// Writes an answer of a board.
+    fn write_answer<K: Sink>(
+        &self,
+        out: &mut K,
+        blocks: &mut Blocks<'_>,
+        board: &Board,
+        answer: &Answer,
+    ) -> Result<(), Failure>
+        requires way { is_open self.now }
+        requires blocks { AreBlocksOf board.now blocks.old }
+        requires at { blocks.old.at ≡ None }
+        requires named { All (λ (run : ℕ × Stream). run.0 < length blocks.old.names.now.contracts) answer.now.runs }
+        requires reply { IsReplyOn board.now answer.now }
+        requires known { AreKnownAt board.now answer.now.version blocks.old }
+        ensures text { Writes (answer_text blocks.old.names.now (printed_answer answer.now)) (K.page out.old) result (K.page out.new) }
+        ensures blocks { IfOk result (λ _. AreBlocksOf board.now blocks.new) }
+        ensures names { IfOk result (λ _. blocks.new.names.now ≡ blocks.old.names.now) };
+}
+
+/// One block is put together and written after the other.
+#[derive(Clone, Copy)]
+pub struct OneByOne;
+
+impl Way for OneByOne {
+    ghost is_open = { λ _. ⊤ };
+
+    fn write_answer<K: Sink>(
+        &self,
+        out: &mut K,
+        blocks: &mut Blocks<'_>,
+        board: &Board,
+        answer: &Answer,
+    ) -> Result<(), Failure> {
+        blocks.write_known(out, board, answer)
+    }
+}
+
 /// Writes the answers to the asks of a board's callers, caller after caller.
 pub fn write_answers<K: Sink>(
     out: &mut K,
@@ -35,19 +77,39 @@ pub fn write_answers<K: Sink>(
     ensures text { Writes (answers_text blocks.old.names.now (replies_of lists.now)) (K.page out.old) result (K.page out.new) }
     ensures board { board.new ≡ board.old }
 {
+    write_answers_by(&OneByOne, out, blocks, board, lists)
+}
+
+/// The same, in a way.
+pub fn write_answers_by<W: Way, K: Sink>(
+    way: &W,
+    out: &mut K,
+    blocks: &mut Blocks<'_>,
+    board: &mut Board,
+    lists: &[Vec<Answer>],
+) -> Result<(), Failure>
+    requires way { W.is_open way.now }
+    requires blocks { AreBlocksOf board.old blocks.old }
+    requires named { All (λ (answer : Reply). All (λ (run : ℕ × Stream). run.0 < length blocks.old.names.now.contracts) answer.runs) (replies_of lists.now) }
+    requires replies { All (IsReplyOn board.old) (replies_of lists.now) }
+    ensures text { Writes (answers_text blocks.old.names.now (replies_of lists.now)) (K.page out.old) result (K.page out.new) }
+    ensures board { board.new ≡ board.old }
+{
     for answers in lists {
-        write_list(out, blocks, board, answers)?;
+        write_list(way, out, blocks, board, answers)?;
     }
     Ok(())
 }
 
 /// Writes answers of a board.
-fn write_list<K: Sink>(
+fn write_list<W: Way, K: Sink>(
+    way: &W,
     out: &mut K,
     blocks: &mut Blocks<'_>,
     board: &mut Board,
     answers: &[Answer],
 ) -> Result<(), Failure>
+    requires way { W.is_open way.now }
     requires blocks { AreBlocksOf board.old blocks.old }
     requires named { All (λ (answer : Reply). All (λ (run : ℕ × Stream). run.0 < length blocks.old.names.now.contracts) answer.runs) answers.now }
     requires replies { All (IsReplyOn board.old) answers.now }
@@ -59,7 +121,7 @@ fn write_list<K: Sink>(
     let alloc = *blocks.line.allocator();
     for answer in answers {
         blocks.know(alloc, board, answer.version);
-        blocks.write_known(out, board, answer)?;
+        way.write_answer(out, blocks, board, answer)?;
     }
     Ok(())
 }
@@ -104,11 +166,16 @@ impl Blocks<'_> {
     }
 
     /// Writes the line above an answer.
-    fn write_head<K: Sink>(&mut self, out: &mut K, answer: &Answer) -> Result<(), Failure>
+    pub(crate) fn write_head<K: Sink>(
+        &mut self,
+        out: &mut K,
+        answer: &Answer,
+    ) -> Result<(), Failure>
         ensures text { Writes (answer_head_text answer.now.caller answer.now.number answer.now.version) (K.page out.old) result (K.page out.new) }
         ensures names { self.new.names.now ≡ self.old.names.now }
         ensures kept { self.new.kept ≡ self.old.kept }
         ensures known { self.new.known ≡ self.old.known }
+        ensures at { self.new.at ≡ self.old.at }
     {
         self.line.clear();
         answer_head(answer, &mut self.line)?;
@@ -167,7 +234,7 @@ impl Blocks<'_> {
 }
 
 /// Whether runs are of all contracts, so many, by their numbers.
-fn are_of_all(runs: &[(u32, Arc<Run, Global>)], contracts: usize) -> bool
+pub(crate) fn are_of_all(runs: &[(u32, Arc<Run, Global>)], contracts: usize) -> bool
     ensures { IsTrue result → AreOfAll contracts (shared_runs runs.now) }
 {
     for (place, run) in runs.iter().enumerate() {

@@ -113,13 +113,13 @@ impl<'a> Blocks<'a> {
 }
 
 /// A place for the lines of each contract's rows, so many, with none yet.
-fn no_lines<'a>(
+pub(crate) fn no_lines<'a>(
     alloc: Global,
     names: &'a Names,
     places: usize,
 ) -> Result<Vec<RowLines<'a>>, NoMemory>
     ensures written { IfOk result (λ kept. AreWrittenWith names.now kept.items) }
-    ensures few { IfOk result (λ kept. length kept.items ≤ places) }
+    ensures count { IfOk result (λ kept. length kept.items ≡ places) }
 {
     let mut kept = Vec::with_capacity(alloc, places)?;
     'places: while kept.len() < places {

@@ -3,13 +3,16 @@
 #![tactic(auto)]
 
 mod answers;
+mod beside;
 mod blocks;
 mod cuts;
 mod ends;
 mod heads;
 mod rows;
+mod windows;
 
-pub use answers::{answer_count, write_answers};
+pub use answers::{OneByOne, Way, answer_count, write_answers, write_answers_by};
+pub use beside::SideBySide;
 pub use blocks::{Blocks, Known};
 pub use ends::{Stopped, Stops, stops_of};
 pub use heads::{JournalStep, write_heads};

@@ -1,5 +1,5 @@
 //! The turn: a ticket for each that waits, and one slot for the value.
-ghost use Rattle.std.specs.Prelude.{◌≡◌, ◌+◌, ◌<◌, [], map, true, false, All, Any, IfOk, IfErr, vec_len, vec_capacity};
+ghost use Rattle.std.specs.Prelude.{◌≡◌, ◌+◌, ◌<◌, ◌≤◌, [], map, true, false, All, Any, IfOk, IfErr, vec_len, vec_capacity};
 ghost use mathlib.Core.List.{IsPrefix};
 ghost use Rattle.act_turn.specs.Journal.{entries_of, GoesOn};
 ghost use Rattle.act_turn.specs.Standing.{AreNumbered, IsFree, own_entries};
@@ -7,13 +7,13 @@ ghost use Rattle.act_turn.specs.Steps.{WaitsFor, HasCome};
 ghost use Rattle.act_turn.specs.Turn.{IsOpener, StandsForOne, opener, seen_of, member_of};
 ghost use Rattle.act_turn.specs.declared.view.Stage.TheVariants.{Away};
 
+use crate::bell::Bell;
 use crate::kept::Kept;
 use crate::pass::{Held, Pass};
 use crate::plays::{Draw, Gather, GiveNumber, Look, PassOn};
 use crate::view::{InTurns, Opening, View};
 use atomic_table::{Refused, Seat, Table};
-use std::alloc::Global;
-use std::hint::spin_loop;
+use std::alloc::{AllocError, Global};
 use std::marker::Model;
 use std::snapshot::Snapshot;
 use std::sync::Wait;
@@ -24,24 +24,26 @@ const TICKET: usize = 0;
 /// The word of the ticket that is served.
 const SERVING: usize = 1;
 
-/// How often a thread that waits looks at the ticket that is served before it sleeps in between.
-const LOOKS: u32 = 1024;
+/// How many bells there are, one for each of so many tickets that follow one another.
+const BELLS: usize = 128;
 
 /// A value that is passed from thread to thread in turns. Contracts see which turn it is, and how many
 /// passes it has.
 pub struct Turn<K: Kept> {
     table: Table<Option<K>, View<K::Entry>, Opening<K>, InTurns<K>, Global>,
+    /// A thread sleeps by the bell of its ticket until that is served. The rule of the table doesn't know of them.
+    bells: Vec<Bell>,
 }
 
 impl<K: Kept> Model for Turn<K> {
-    ghost use Rattle.std.specs.Prelude.{◌≡◌, ◌<◌};
+    ghost use Rattle.std.specs.Prelude.{◌≡◌, ◌<◌, ◌≤◌, vec_len};
     ghost use Rattle.act_turn.specs.Standing.{Identity};
 
     ghost Value = { Identity };
 
     ghost view = { λ t. record { id = t.table.shared.table_id; seats = t.table.shared.key.seats } };
 
-    ghost invariant = { λ t. (t.table.shared.table_id.words ≡ 2) × (t.table.shared.table_id.slots ≡ 1) × (0 < t.table.shared.key.seats) };
+    ghost invariant = { λ t. (t.table.shared.table_id.words ≡ 2) × (t.table.shared.table_id.slots ≡ 1) × (0 < t.table.shared.key.seats) × (128 ≤ vec_len t.bells) };
 }
 
 /// There was no memory. The value comes back.
@@ -85,6 +87,9 @@ impl<K: Kept> Turn<K> {
         ensures first { IfOk result (λ r. (r.1.table_id ≡ r.0.id) × (r.1.me ≡ (opener (K.journal value), []))) }
         ensures err { IfErr result (λ f. f.value ≡ value) }
     {
+        let Ok(bells) = bells(alloc) else {
+            return Err(NewFault { value });
+        };
         let Ok(mut slots) = Vec::with_capacity(alloc, 1) else {
             return Err(NewFault { value });
         };
@@ -94,7 +99,7 @@ impl<K: Kept> Turn<K> {
         };
         slots.push_reserved(Some(value));
         match Table::new(alloc, &[0, 0], slots, &opening) {
-            Ok((table, seat)) => Ok((Turn { table }, seat)),
+            Ok((table, seat)) => Ok((Turn { table, bells }, seat)),
             Err(Refused { mut slots }) => {
                 let value = slots.pop().unwrap().unwrap();
                 slots.destroy_empty();
@@ -134,7 +139,8 @@ impl<K: Kept> Turn<K> {
         ensures own { All (λ p. entries_of K.author p.number (K.journal result) ≡ own_entries K.author p) passes.items }
     {
         let seat = self.gather(passes);
-        let Turn { table } = self;
+        let Turn { table, bells } = self;
+        drop(bells);
         let mut closed = table.close_with(seat);
         let value = closed.take(0).unwrap();
         closed.free();
@@ -173,8 +179,8 @@ impl<K: Kept> Turn<K> {
         Held { value }
     }
 
-    /// Looks at the ticket that is served until it is the seat's own. After some looks it sleeps in between,
-    // so that it doesn't burn the processor that whoever has the turn may need.
+    /// Looks at the ticket that is served, and sleeps by the bell of its own ticket until that may be the one. It doesn't
+    /// look again and again, which would burn the processor that whoever has the turn may need.
     fn wait<R: Wait>(&self, rt: &R, seat: &mut Seat<Option<K>, View<K::Entry>>, ticket: u64)
         requires turn { seat.old.table_id ≡ self.now.id }
         requires waits { WaitsFor ticket seat.old.me }
@@ -183,24 +189,25 @@ impl<K: Kept> Turn<K> {
         ensures come { HasCome K.journal K.author seat.old.me seat.new.me }
     {
         let shared = &self.table.shared;
-        let mut looks = 0;
+        let bell = self.bell(ticket);
         for _ in rt.forever() {
+            let rings = bell.rings();
             let serving = shared.load::<Look>(seat, SERVING);
             if serving == ticket {
                 return;
             }
-            if looks < LOOKS {
-                looks += 1;
-                spin_loop();
-            } else {
-                shared.park(rt, SERVING, (serving & 0xffff_ffff) as u32);
-            }
+            bell.sleep(rt, rings);
         }
         unreachable!()
     }
 
-    /// Puts the value back, and passes the turn on. The journal goes on from the one that was taken, by
-    /// entries of this pass or of nobody.
+    /// The bell of a ticket. Where no more threads wait than there are bells, each that waits has one of its own.
+    fn bell(&self, ticket: u64) -> &Bell {
+        &self.bells[ticket as usize % BELLS]
+    }
+
+    /// Puts the value back, and passes the turn on; of the threads that sleep the one is woken whose ticket is served then. The
+    /// journal goes on from the one that was taken, by entries of this pass or of nobody.
     pub fn give(&self, pass: &mut Pass<K>, held: Held<K>)
         requires turn { pass.old.turn ≡ self.now.id }
         requires taken { pass.old.holds ≡ true }
@@ -212,9 +219,21 @@ impl<K: Kept> Turn<K> {
         let empty = shared.exchange(&mut pass.seat, 0, Some(value));
         let None = empty else { unreachable!() };
         let served = shared.fetch_add::<PassOn>(&mut pass.seat, SERVING, 1);
+        let next = served.wrapping_add(1);
         // A thread that sleeps drew its ticket before this step, so the test sees that. One that draws later looks later.
-        if shared.peek(TICKET) != served.wrapping_add(1) {
-            shared.wake_all(SERVING);
+        if shared.peek(TICKET) != next {
+            self.bell(next).ring_all();
         }
     }
+}
+
+/// Bells that haven't rung.
+fn bells(alloc: Global) -> Result<Vec<Bell>, AllocError>
+    ensures { IfOk result (λ bells. BELLS ≤ vec_len bells) }
+{
+    let mut bells = Vec::with_capacity(alloc, BELLS)?;
+    'bells: while bells.len() < BELLS {
+        bells.push(Bell::new())?;
+    }
+    Ok(bells)
 }

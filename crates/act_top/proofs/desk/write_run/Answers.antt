@@ -49,8 +49,8 @@ returns-in_err-write_heads-clause-text g c =
     subst (λ (t : List ℕ). Writes t (g.K.Sink.page c.args.out.now) c.from_residual-in_err-write_heads.result (g.K.Sink.page c.write_heads.new.out)) (sym (transcript-parts j.scripts.names items replies))
     (writes-first c.from_residual-in_err-write_heads.result stop (heads_text j.scripts.names items (length replies)) (answers_text j.scripts.names replies) (g.K.Sink.page c.args.out.now) (g.K.Sink.page c.write_heads.new.out) c.from_residual-in_err-write_heads.ensures.1 part)
 
-pub write_answers-requires-clause-named : goal.write_answers-requires-clause-named
-write_answers-requires-clause-named g c =
+pub write_answers_by-requires-clause-named : goal.write_answers_by-requires-clause-named
+write_answers_by-requires-clause-named g c =
     let j = c.args.job.now in
     let items = journal_of c.args.board.now in
     let ready = subst (λ (job : Job). IsRunnable job.portfolio job.scripts job.workers) c.job.view_is c.job.invariant in
@@ -59,8 +59,8 @@ write_answers-requires-clause-named g c =
     subst (λ (n : NameLists). All (λ (answer : Reply). All (λ (run : ℕ × Stream). run.0 < length n.contracts) answer.runs) (replies_of c.args.answers.now)) (sym names)
     (subst (λ (replies : List Reply). All (λ (answer : Reply). All (λ (run : ℕ × Stream). run.0 < length j.scripts.names.contracts) answer.runs) replies) (sym c.requires.answers) (answers-named j.portfolio.contracts j.scripts.names items known))
 
-pub write_answers-requires-clause-replies : goal.write_answers-requires-clause-replies
-write_answers-requires-clause-replies g c =
+pub write_answers_by-requires-clause-replies : goal.write_answers_by-requires-clause-replies
+write_answers_by-requires-clause-replies g c =
     let j = c.args.job.now in
     let board = c.args.board.now in
     subst (λ (replies : List Reply). All (IsReplyOn board) replies) (ap (λ (p : Accepted). answers_of p.contracts j.scripts.names (journal_of board)) c.requires.portfolio ∙ sym c.requires.answers)
@@ -75,7 +75,7 @@ returns-clause-text g c =
     let heads = heads-same c.job-inside.inside.0.1.0.names j.scripts.names c.journal-journal.result.now items c.answer_count-count.result (length replies) names c.journal-journal.ensures.journal (c.answer_count-count.ensures ∙ ap length c.requires.answers) in
     let first = subst (λ (t : List ℕ). g.K.Sink.page c.write_heads.new.out ≡ written_on (g.K.Sink.page c.args.out.now) t) heads c.in_ok-write_heads.ensures in
     let blocks : c.in_ok-blocks.blocks.names.now ≡ j.scripts.names = c.in_ok-blocks.ensures.names ∙ names in
-    let second = subst (λ (n : NameLists). Writes (answers_text n (replies_of c.args.answers.now)) (g.K.Sink.page c.write_heads.new.out) c.write_answers.result (g.K.Sink.page c.write_answers.new.out)) blocks c.write_answers.ensures.text in
-    let third = subst (λ (rs : List Reply). Writes (answers_text j.scripts.names rs) (g.K.Sink.page c.write_heads.new.out) c.write_answers.result (g.K.Sink.page c.write_answers.new.out)) c.requires.answers second in
-    subst (λ (t : List ℕ). Writes t (g.K.Sink.page c.args.out.now) c.write_answers.result (g.K.Sink.page c.write_answers.new.out)) (sym (transcript-parts j.scripts.names items replies))
-    (writes-behind c.write_answers.result (heads_text j.scripts.names items (length replies)) (answers_text j.scripts.names replies) (g.K.Sink.page c.args.out.now) (g.K.Sink.page c.write_heads.new.out) (g.K.Sink.page c.write_answers.new.out) first third)
+    let second = subst (λ (n : NameLists). Writes (answers_text n (replies_of c.args.answers.now)) (g.K.Sink.page c.write_heads.new.out) c.write_answers_by.result (g.K.Sink.page c.write_answers_by.new.out)) blocks c.write_answers_by.ensures.text in
+    let third = subst (λ (rs : List Reply). Writes (answers_text j.scripts.names rs) (g.K.Sink.page c.write_heads.new.out) c.write_answers_by.result (g.K.Sink.page c.write_answers_by.new.out)) c.requires.answers second in
+    subst (λ (t : List ℕ). Writes t (g.K.Sink.page c.args.out.now) c.write_answers_by.result (g.K.Sink.page c.write_answers_by.new.out)) (sym (transcript-parts j.scripts.names items replies))
+    (writes-behind c.write_answers_by.result (heads_text j.scripts.names items (length replies)) (answers_text j.scripts.names replies) (g.K.Sink.page c.args.out.now) (g.K.Sink.page c.write_heads.new.out) (g.K.Sink.page c.write_answers_by.new.out) first third)

@@ -1,14 +1,7 @@
-use Rattle.std.proofs.Common.{◌≡◌, ◌-◌, ◌≤◌, ◌+◌, length, take}
+use Rattle.std.proofs.Common.{◌≡◌, ◌-◌, ◌≤◌, length}
 use Rattle.std.specs.List.{count_by}
 use Rattle.act_desk.specs.Making.{IsMaking, asks}
 use Rattle.act_desk.proofs.desk.Desk.make.Given as goal
-
-abbrev pub invariant-loop-line : goal.invariant-loop-line
-invariant-loop-line g l = record {
-  making : IsMaking g.A.FromAnswer.kept_of l.fn.pass l.caller (take l.line-index l.lines) l.answers.items l.pass;
-  asked : l.asked ≡ count_by asks (take l.line-index l.lines);
-  room : l.asked ≤ length l.answers.items + 256;
-}
 
 abbrev pub invariant-rest : goal.invariant-rest
 invariant-rest g l = record {

@@ -3,7 +3,7 @@ use Rattle.act_engine.proofs.Texts.{Left}
 use Rattle.act_transcript.specs.KnownLines.{AreBlocksOf}
 use Rattle.act_history.specs.History.{replies_of}
 use Rattle.act_transcript.specs.Text.{answers_text}
-use Rattle.act_transcript.proofs.answers.write_answers.Given as goal
+use Rattle.act_transcript.proofs.answers.write_answers_by.Given as goal
 
 -- the answers of the lists from this one on are still to be written
 abbrev pub invariant-loop-answers : goal.invariant-loop-answers

@@ -8,8 +8,8 @@ use Rattle.act_model.specs.Run.{Stream}
 use Rattle.act_transcript.specs.KnownLines.{AreBlocksOf, IsReplyOn}
 use Rattle.act_transcript.specs.Text.{answers_text}
 use Rattle.act_transcript.proofs.Texts.{all-inside, text-both}
-use Rattle.act_transcript.proofs.answers.write_answers.Goals as goal
-use Rattle.act_transcript.proofs.answers.write_answers.Goals.{After-deref}
+use Rattle.act_transcript.proofs.answers.write_answers_by.Goals as goal
+use Rattle.act_transcript.proofs.answers.write_answers_by.Goals.{After-deref}
 
 pub loop-answers-init : goal.loop-answers-init
 loop-answers-init g c = record { text = left-all _ _; blocks = c.requires.blocks; names = refl; board = refl }
@@ -18,6 +18,7 @@ pub write_list-requires : goal.write_list-requires
 write_list-requires g c =
     let now = c.loop-answers.invariant in
     record {
+      way = c.requires.way;
       blocks = rw now.board now.blocks;
       named = rw (c.deref.ensures.value, now.names)
           (all-inside (λ (answer : Reply). All (λ (run : ℕ × Stream). run.0 < length c.args.blocks.now.names.now.contracts) answer.runs) c.args.lists.now c.loop-answers.answers-index c.answers-item.result c.loop-answers-test.true c.answers-item.is c.requires.named);

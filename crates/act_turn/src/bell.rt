@@ -6,7 +6,7 @@ use std::sync::atomic::{AtomicU64, Ordering};
 /// changed, and then sleeps only if none has come since. Where nobody sleeps or is about to, ringing takes no call of the system: a
 /// thread counts as a sleeper before it looks at the rings a last time, and who rings counts the ring before looking for sleepers.
 #[derive(Drop)]
-pub(crate) struct Bell {
+pub struct Bell {
     /// How often it has rung, modulo 2^64.
     rings: AtomicU64,
     /// How many threads sleep, or are about to or have just woken.
@@ -15,7 +15,7 @@ pub(crate) struct Bell {
 
 impl Bell {
     /// A bell that hasn't rung.
-    pub(crate) fn new() -> Bell {
+    pub fn new() -> Bell {
         Bell {
             rings: AtomicU64::new(0),
             sleepers: AtomicU64::new(0),
@@ -23,18 +23,18 @@ impl Bell {
     }
 
     /// How often it has rung, modulo 2^64.
-    pub(crate) fn rings(&self) -> u64 {
+    pub fn rings(&self) -> u64 {
         self.rings.load(Ordering::SeqCst)
     }
 
     /// Rings for one thread that sleeps.
-    pub(crate) fn ring_one(&self) {
+    pub fn ring_one(&self) {
         self.rings.fetch_add(1, Ordering::SeqCst);
         self.wake_one();
     }
 
     /// Rings for all threads that sleep.
-    pub(crate) fn ring_all(&self) {
+    pub fn ring_all(&self) {
         self.rings.fetch_add(1, Ordering::SeqCst);
         if self.has_sleepers() {
             self.rings.wake_all();
@@ -42,7 +42,7 @@ impl Bell {
     }
 
     /// Wakes one thread more that still sleeps. A thread that is about to sleep needn't be woken: what it waits for was rung for.
-    pub(crate) fn wake_one(&self) {
+    pub fn wake_one(&self) {
         if self.has_sleepers() {
             self.rings.wake_one();
         }
@@ -52,7 +52,7 @@ impl Bell {
     /// compares the low 32 bits of the count alone, so all 64 are compared first: a count that has gone on by 2^32 since isn't
     /// taken for the same. Only where it goes on by such a multiple between this look and the system's does the thread
     /// miss these rings, and it then sleeps until the next one.
-    pub(crate) fn sleep<R: Wait>(&self, rt: &R, rings: u64) {
+    pub fn sleep<R: Wait>(&self, rt: &R, rings: u64) {
         self.sleepers.fetch_add(1, Ordering::SeqCst);
         if self.rings() == rings {
             self.rings.park(rt, (rings & 0xffff_ffff) as u32);
