@@ -16,13 +16,13 @@ from collections.abc import Sequence
 from contextlib import ExitStack
 from datetime import date
 from decimal import Decimal
-from pathlib import Path
-from typing import Any
+from typing import Any, BinaryIO
 
 from .errors import PORTFOLIO, SCRIPT, UNFINISHED, UNREADABLE, ProgramError, ToolError, reason
 from .text import Text, read_text
 
 Source = str | os.PathLike[str] | bytes | Sequence[dict[str, Any]]
+MOST_LINE = 1 << 20
 _REFUSED_PORTFOLIO = re.compile(r"portfolio ([0-9]+) ([0-9]+) (.*)")
 _REFUSED_SCRIPT = re.compile(r"script ([0-9]+) ([0-9]+) ([0-9]+)")
 
@@ -104,6 +104,22 @@ def refusal(status: int, output: str, explanation: str) -> ProgramError:
     return ProgramError(status, line, explanation, what=what)
 
 
+def run_to_file(path: str, files: Sequence[str], out: BinaryIO) -> int:
+    """Evaluates files by the program at a path, and writes the text to an open file; gives back the status, 0 or 8.
+    Raises `ProgramError` where something is refused."""
+    with tempfile.TemporaryFile() as errors:
+        try:
+            done = subprocess.run([path, "eval", *files], stdin=subprocess.DEVNULL, stdout=out, stderr=errors)
+        except OSError as error:
+            raise ToolError(f"{path} can't be run: {reason(error)}", UNREADABLE) from None
+        if done.returncode in (0, UNFINISHED):
+            return done.returncode
+        errors.seek(0)
+        out.seek(0)
+        line = out.readline(MOST_LINE).decode("utf-8", "replace")
+        raise refusal(done.returncode, line, errors.read().decode("utf-8", "replace"))
+
+
 def run(portfolio: Source, script: Source | None = None, *, program: str | os.PathLike[str] | None = None) -> Text:
     """Evaluates a portfolio over a script, as `actus eval` does: the journal, the answers with their rows, and how many
     rows were computed.
@@ -114,21 +130,10 @@ def run(portfolio: Source, script: Source | None = None, *, program: str | os.Pa
     """
     path = find_program(program)
     with ExitStack() as held:
-        words = [path, "eval", _as_file(portfolio, ".json", held)]
+        files = [_as_file(portfolio, ".json", held)]
         if script is not None:
-            words.append(_as_file(script, ".txt", held))
-        errors = held.enter_context(tempfile.TemporaryFile())
-        try:
-            process = subprocess.Popen(words, stdin=subprocess.DEVNULL, stdout=subprocess.PIPE, stderr=errors)
-        except OSError as error:
-            raise ToolError(f"{path} can't be run: {reason(error)}", UNREADABLE) from None
-        with process:
-            output = process.stdout.read()
-        errors.seek(0)
-        explanation = errors.read().decode("utf-8", "replace")
-        if process.returncode not in (0, UNFINISHED):
-            raise refusal(process.returncode, output.decode("utf-8", "replace"), explanation)
-        return read_text(output).whole()
-
-
-__all__ = ["PORTFOLIO", "SCRIPT", "Source", "find_program", "portfolio_bytes", "refusal", "run", "script_bytes"]
+            files.append(_as_file(script, ".txt", held))
+        out = held.enter_context(tempfile.TemporaryFile())
+        run_to_file(path, files, out)
+        out.seek(0)
+        return read_text(out).whole()

@@ -1,0 +1,184 @@
+"""The commands of `python3 -m actus`, and of `actus-tools` where the package is installed."""
+
+from __future__ import annotations
+
+import argparse
+import contextlib
+import os
+import sys
+import tempfile
+from collections.abc import Callable, Iterator, Sequence
+from typing import BinaryIO
+
+from .errors import NO_MEMORY, UNFINISHED, UNREADABLE, UNWRITABLE, WORDS, ToolError, reason
+from .files import reading, writing
+
+DESCRIPTION = """Tables, pictures, the standard's files, and portfolios of any size, around actus, the program that
+computes the cash flows of ACTUS contracts. Each command has a --help of its own; docs/PYTHON.md has examples."""
+
+STATUSES = """statuses: 0 all is there; 8 it is, and a block stops; 1 a verdict: faults, rows that differ, parts that
+failed; 2 wrong words; 3 a file or a program that can't be read or run; 5 a portfolio, 6 a script that is refused; 7 an
+output that can't be written; 9 memory ran out"""
+
+
+class Parser(argparse.ArgumentParser):
+    """A parser whose faults are one line, with status 2."""
+
+    def error(self, message: str) -> None:
+        raise ToolError(f"{message}; see {self.prog} --help", WORDS)
+
+
+def new_parser() -> Parser:
+    """The parser of all commands."""
+    parser = Parser(prog="python3 -m actus", description=DESCRIPTION, epilog=STATUSES,
+                    formatter_class=argparse.ArgumentDefaultsHelpFormatter)
+    commands = parser.add_subparsers(dest="command", metavar="COMMAND", required=True, parser_class=Parser)
+    for add in (add_table,):
+        add(commands)
+    return parser
+
+
+def new_command(commands: argparse._SubParsersAction, name: str, does: str, work: Callable[[argparse.Namespace], int],
+                **kept: object) -> Parser:
+    """Adds a command."""
+    parser = commands.add_parser(name, help=does, description=does[0].upper() + does[1:] + ".", **kept)
+    parser.set_defaults(work=work)
+    return parser
+
+
+def add_program(parser: argparse.ArgumentParser, name: str = "actus") -> None:
+    """Adds the option that says where a program is."""
+    parser.add_argument("--program", metavar="PATH", help=f"the program {name}; else the environment variable "
+                        f"{name.upper()}, ./{name}, or {name} on the path")
+
+
+# ---- texts
+
+
+def add_text(parser: argparse.ArgumentParser) -> None:
+    """Adds the words that say which text is read."""
+    parser.add_argument("text", nargs="?", default="-", metavar="TEXT",
+                        help="a text that eval or desk has printed; - or nothing: the standard input")
+    parser.add_argument("--run", nargs="+", metavar="FILE",
+                        help="in place of TEXT: evaluate a portfolio, with a script where one is named")
+    add_program(parser)
+
+
+@contextlib.contextmanager
+def opened(words: argparse.Namespace) -> Iterator[BinaryIO]:
+    """The text that the words name, or what the program prints of the files that they name."""
+    if not words.run:
+        with reading(words.text) as file:
+            yield file
+    else:
+        with evaluated(words.run, words.program) as file:
+            yield file
+
+
+@contextlib.contextmanager
+def evaluated(files: Sequence[str], program: str | None) -> Iterator[BinaryIO]:
+    """What `eval` prints of a portfolio and a script, in a file of its own."""
+    from .program import find_program, run_to_file
+    if len(files) > 2:
+        raise ToolError("--run takes a portfolio and at most one script", WORDS)
+    with tempfile.TemporaryFile() as file:
+        run_to_file(find_program(program), files, file)
+        file.seek(0)
+        yield file
+
+
+def told(stopped: int, name: str) -> int:
+    """The status of a table: 8 where blocks stop, which is said."""
+    if stopped:
+        blocks = "a block stops" if stopped == 1 else f"{stopped} blocks stop"
+        print(f"{name}: {blocks} by missing or overflow (docs/ERRORS.md, blocks that stop)", file=sys.stderr)
+    return UNFINISHED if stopped else 0
+
+
+def add_csv(parser: argparse.ArgumentParser) -> None:
+    """Adds the options of CSV."""
+    parser.add_argument("--separator", metavar="SIGN", help="what stands between fields of CSV: a comma, or a "
+                        "semicolon with --decimal-comma; \\t is a tab")
+    parser.add_argument("--decimal-comma", action="store_true", help="decimals of CSV behind a comma")
+
+
+def csv_form(words: argparse.Namespace):
+    """The form of CSV that the words name."""
+    from .table import CsvForm
+    separator = "\t" if words.separator == "\\t" else words.separator
+    return CsvForm(separator, words.decimal_comma)
+
+
+def add_table(commands: argparse._SubParsersAction) -> None:
+    parser = new_command(commands, "table", "make a table of a text: CSV, JSON Lines or an SQLite database", table)
+    add_text(parser)
+    parser.add_argument("--form", choices=("csv", "jsonl", "sqlite"), help="the form; else by the end of the output's "
+                        "name (.csv, .jsonl, .sqlite or .db), or csv")
+    parser.add_argument("-o", "--output", metavar="FILE", help="the file to write; else the standard output")
+    parser.add_argument("--ladder", choices=("month", "year"), help="sums by month or year and currency, in place of "
+                        "rows, as CSV")
+    add_csv(parser)
+
+
+def form_of(form: str | None, output: str | None) -> str:
+    """The form of a table: the given one, or by the name of the output."""
+    by_end = {".jsonl": "jsonl", ".sqlite": "sqlite", ".sqlite3": "sqlite", ".db": "sqlite"}
+    found = form or by_end.get(os.path.splitext(output or "")[1], "csv")
+    if found == "sqlite" and (output is None or output == "-"):
+        raise ToolError("a database is a file: say which by --output", WORDS)
+    return found
+
+
+def table(words: argparse.Namespace) -> int:
+    from .ladder import Ladder
+    from .table import write_csv, write_database, write_json_lines
+    from .text import read_text
+    form, csv, stopped = form_of(words.form, words.output), csv_form(words), 0
+    if words.ladder and form != "csv":
+        raise ToolError("a ladder is written as CSV", WORDS)
+    with opened(words) as file:
+        reader = read_text(file)
+        if words.ladder:
+            ladder = Ladder(words.ladder)
+            for block in reader.raw_blocks():
+                ladder.add(block)
+                stopped += block.stop is not None
+            with writing(words.output) as out:
+                ladder.write(out, csv)
+        elif form == "sqlite":
+            stopped = write_database(reader, words.output)
+        else:
+            with writing(words.output) as out:
+                stopped = write_csv(reader, out, csv) if form == "csv" else write_json_lines(reader, out)
+    return told(stopped, words.run[0] if words.run else words.text)
+
+
+# ---- the whole
+
+
+def main(words: Sequence[str] | None = None) -> int:
+    """Runs the command of some words, those of the command line where none are given; gives back its status."""
+    try:
+        given = new_parser().parse_args(words)
+        status = given.work(given)
+        sys.stdout.flush()
+        return status
+    except ToolError as error:
+        return said(error.message, error.status)
+    except BrokenPipeError:
+        os.dup2(os.open(os.devnull, os.O_WRONLY), sys.stdout.fileno())
+        return UNWRITABLE
+    except OSError as error:
+        where = f"{error.filename}: " if error.filename else ""
+        return said(f"{where}{reason(error)}", UNWRITABLE if error.errno in (28, 30) else UNREADABLE)
+    except MemoryError:
+        return said("memory ran out", NO_MEMORY)
+    except KeyboardInterrupt:
+        return said("stopped by the keyboard", 130)
+
+
+def said(message: str, status: int) -> int:
+    """Says a line on standard error; gives back the status."""
+    with contextlib.suppress(OSError):
+        print("actus: " + " ".join(message.splitlines()), file=sys.stderr)
+    return status
