@@ -33,7 +33,7 @@ def new_parser() -> Parser:
     parser = Parser(prog="python3 -m actus", description=DESCRIPTION, epilog=STATUSES,
                     formatter_class=argparse.ArgumentDefaultsHelpFormatter)
     commands = parser.add_subparsers(dest="command", metavar="COMMAND", required=True, parser_class=Parser)
-    for add in (add_table,):
+    for add in (add_table, add_picture):
         add(commands)
     return parser
 
@@ -151,6 +151,38 @@ def table(words: argparse.Namespace) -> int:
             with writing(words.output) as out:
                 stopped = write_csv(reader, out, csv) if form == "csv" else write_json_lines(reader, out)
     return told(stopped, words.run[0] if words.run else words.text)
+
+
+# ---- pictures
+
+
+def add_picture(commands: argparse._SubParsersAction) -> None:
+    parser = new_command(commands, "picture", "draw the cash flows of a text as bars: in and out, by period and "
+                         "currency", picture)
+    add_text(parser)
+    parser.add_argument("-o", "--output", metavar="FILE", required=True, help="the picture to write, .svg or .png (a "
+                        "PNG needs matplotlib)")
+    parser.add_argument("--contract", metavar="NAME", help="one contract's flows; else those of all")
+    parser.add_argument("--caller", type=int, default=1, metavar="N", help="whose answers")
+    parser.add_argument("--ask", type=int, metavar="N", help="the answer to this ask; else the last")
+    parser.add_argument("--before", type=int, metavar="N", help="lay the answer to this ask over it, as an outline: "
+                        "what was before a correction")
+    parser.add_argument("--types", metavar="TYPES", help="rows of these types of events alone, as IP,FP")
+    parser.add_argument("--period", choices=("month", "quarter", "year"), help="the period of a bar; else the least "
+                        "that gives 60 bars or less")
+
+
+def picture(words: argparse.Namespace) -> int:
+    from .picture import Choice, draw
+    from .text import EVENT_TYPES, read_text
+    types = words.types.upper().split(",") if words.types else ()
+    for kind in types:
+        if kind not in EVENT_TYPES:
+            raise ToolError(f"{kind} is no type of event; there are {' '.join(EVENT_TYPES)}", WORDS)
+    choice = Choice(words.caller, words.ask, words.before, words.contract, types, words.period)
+    with opened(words) as file:
+        draw(read_text(file), choice).write(words.output)
+    return 0
 
 
 # ---- the whole
