@@ -33,7 +33,7 @@ def new_parser() -> Parser:
     parser = Parser(prog="python3 -m actus", description=DESCRIPTION, epilog=STATUSES,
                     formatter_class=argparse.ArgumentDefaultsHelpFormatter)
     commands = parser.add_subparsers(dest="command", metavar="COMMAND", required=True, parser_class=Parser)
-    for add in (add_table, add_picture):
+    for add in (add_table, add_picture, add_standard):
         add(commands)
     return parser
 
@@ -183,6 +183,89 @@ def picture(words: argparse.Namespace) -> int:
     with opened(words) as file:
         draw(read_text(file), choice).write(words.output)
     return 0
+
+
+# ---- the standard's files
+
+
+def add_standard(commands: argparse._SubParsersAction) -> None:
+    parser = new_command(commands, "standard", "read files of the standard's published tests", lambda words: 0)
+    inner = parser.add_subparsers(dest="what", metavar="WHAT", required=True, parser_class=Parser)
+    one = new_command(inner, "convert", "write the portfolio and the script of each case, and tell what has no "
+                      "counterpart", standard_convert)
+    one.add_argument("files", nargs="+", metavar="FILE", help="a file of cases")
+    one.add_argument("-o", "--output", metavar="FOLDER", help="where CASE.json and CASE.txt are written; else nowhere")
+    two = new_command(inner, "compare", "run each case and compare its rows with its results", standard_compare)
+    two.add_argument("files", nargs="+", metavar="FILE", help="a file of cases")
+    two.add_argument("--tolerance", default="0.000001", metavar="NUMBER", help="how far numbers may be apart")
+    two.add_argument("--payments", action="store_true", help="compare what is paid alone, by day and currency")
+    two.add_argument("--notes", action="store_true", help="tell what has no counterpart besides")
+    add_program(two)
+    for each in (one, two):
+        each.add_argument("--case", action="append", metavar="NAME", help="this case alone; may be given again")
+
+
+def chosen_cases(words: argparse.Namespace) -> Iterator:
+    """The cases of the files that are wanted."""
+    from .standard import read_cases
+    wanted = set(words.case or ())
+    for name in words.files:
+        for case in read_cases(name):
+            if not words.case or case.name in words.case:
+                wanted.discard(case.name)
+                yield case
+    if wanted:
+        raise ToolError(f"there is no case {sorted(wanted)[0]} in the files", WORDS)
+
+
+GROUPS = {"effect": "changes cash flows", "none": "without effect", "other kind": "without effect here",
+          "unknown": "unknown", "filled": "filled in"}
+
+
+def tell_notes(case) -> None:
+    """Says what of a case has no counterpart."""
+    for note in case.notes:
+        print(f"{case.name}: {note.contract}, {note.name}: {GROUPS[note.group]}: {note.why}")
+    for fault in case.faults:
+        print(f"{case.name}: can't be run: {fault}")
+
+
+def standard_convert(words: argparse.Namespace) -> int:
+    from pathlib import Path
+    faults, taken = 0, set()
+    for case in chosen_cases(words):
+        tell_notes(case)
+        faults += bool(case.faults)
+        if words.output:
+            name = case.name
+            if not name or name in taken or "/" in name or name.startswith("."):
+                raise ToolError(f"case {name!r} can't be the name of a file, or stands twice in the files", WORDS)
+            taken.add(name)
+            folder = Path(words.output)
+            folder.mkdir(parents=True, exist_ok=True)
+            (folder / f"{name}.json").write_bytes(case.portfolio_file)
+            (folder / f"{name}.txt").write_bytes(case.script_file)
+    return 1 if faults else 0
+
+
+def standard_compare(words: argparse.Namespace) -> int:
+    from decimal import Decimal, InvalidOperation
+
+    from .program import find_program
+    from .standard import compare, status_of, table_of
+    try:
+        tolerance = Decimal(words.tolerance)
+        if not tolerance >= 0:
+            raise InvalidOperation
+    except InvalidOperation:
+        raise ToolError(f"{words.tolerance} is no tolerance: give a number from 0 on, as 0.01", WORDS) from None
+    program, verdicts = find_program(words.program), []
+    for case in chosen_cases(words):
+        if words.notes:
+            tell_notes(case)
+        verdicts.append(compare(case, tolerance, program, words.payments))
+    print(table_of(verdicts), end="")
+    return status_of(verdicts)
 
 
 # ---- the whole
