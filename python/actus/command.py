@@ -33,7 +33,7 @@ def new_parser() -> Parser:
     parser = Parser(prog="python3 -m actus", description=DESCRIPTION, epilog=STATUSES,
                     formatter_class=argparse.ArgumentDefaultsHelpFormatter)
     commands = parser.add_subparsers(dest="command", metavar="COMMAND", required=True, parser_class=Parser)
-    for add in (add_table, add_picture, add_standard):
+    for add in (add_table, add_picture, add_standard, add_lint):
         add(commands)
     return parser
 
@@ -266,6 +266,36 @@ def standard_compare(words: argparse.Namespace) -> int:
         verdicts.append(compare(case, tolerance, program, words.payments))
     print(table_of(verdicts), end="")
     return status_of(verdicts)
+
+
+# ---- faults
+
+
+def add_lint(commands: argparse._SubParsersAction) -> None:
+    parser = new_command(commands, "lint", "tell all that is wrong in a portfolio and its scripts, at once: what is "
+                         "refused, names that aren't used, and what is likely not meant", lint)
+    parser.add_argument("portfolio", metavar="PORTFOLIO", help="a portfolio's file")
+    parser.add_argument("scripts", nargs="*", metavar="SCRIPT", help="the scripts that are read over it")
+    parser.add_argument("--form", choices=("text", "jsonl"), default="text", help="lines for people, or an object a "
+                        "finding")
+    parser.add_argument("--strict", action="store_true", help="status 1 also where nothing is refused, and something is "
+                        "unused with effect, unknown, or likely not meant")
+
+
+def lint(words: argparse.Namespace) -> int:
+    import json
+    from dataclasses import asdict
+
+    from .lint import lint_files, text_of
+    report = lint_files(words.portfolio, words.scripts)
+    if words.form == "jsonl":
+        for finding in report.findings:
+            print(json.dumps(asdict(finding), ensure_ascii=False))
+    else:
+        print(text_of(report, words.portfolio), end="")
+    if report.status or not words.strict:
+        return report.status
+    return 1 if any(finding.wanted != "without effect" for finding in report.findings) else 0
 
 
 # ---- the whole
