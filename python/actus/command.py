@@ -33,7 +33,8 @@ def new_parser() -> Parser:
     parser = Parser(prog="python3 -m actus", description=DESCRIPTION, epilog=STATUSES,
                     formatter_class=argparse.ArgumentDefaultsHelpFormatter)
     commands = parser.add_subparsers(dest="command", metavar="COMMAND", required=True, parser_class=Parser)
-    for add in (add_table, add_picture, add_standard, add_lint):
+    for add in (add_table, add_picture, add_standard, add_lint, add_split, add_run_parts, add_run_part, add_gather,
+                add_audit_parts):
         add(commands)
     return parser
 
@@ -296,6 +297,131 @@ def lint(words: argparse.Namespace) -> int:
     if report.status or not words.strict:
         return report.status
     return 1 if any(finding.wanted != "without effect" for finding in report.findings) else 0
+
+
+# ---- parts
+
+
+def positive(text: str) -> int:
+    """A whole number above 0, of the command line."""
+    number = int(text)
+    if number < 1:
+        raise ValueError
+    return number
+
+
+positive.__name__ = "number above 0"
+
+
+def add_jobs(parser: argparse.ArgumentParser) -> None:
+    """Adds the option how much is done at once."""
+    parser.add_argument("-j", "--jobs", type=positive, metavar="N", default=os.cpu_count() or 1,
+                        help="how many at once")
+
+
+def add_split(commands: argparse._SubParsersAction) -> None:
+    parser = new_command(commands, "split", "split a portfolio of any size, a list or JSON Lines, with its scripts into "
+                         "parts that the program takes; what refers to one another stays together", split)
+    parser.add_argument("portfolio", metavar="PORTFOLIO", help="a list of contracts, or a contract a line")
+    parser.add_argument("scripts", nargs="*", metavar="SCRIPT", help="scripts, taken as one; without any all is asked "
+                        "for once")
+    parser.add_argument("-o", "--output", metavar="FOLDER", required=True, help="the folder of parts, which is made")
+    for name, most, what in [("contracts", 4096, "contracts of a part"), ("bytes", 64 << 20, "bytes of its portfolio"),
+                             ("entries", 1_048_576, "entries of its script"),
+                             ("weight", 4_194_304, "what its asks weigh")]:
+        parser.add_argument(f"--{name}", type=positive, metavar="N", default=most, help=f"the most {what}")
+    add_jobs(parser)
+
+
+def split(words: argparse.Namespace) -> int:
+    from .split import Limits, split as split_files
+    limits = Limits(min(words.contracts, 4096), min(words.bytes, 64 << 20), min(words.entries, 1_048_576),
+                    min(words.weight, 4_194_304))
+    parts = split_files(words.portfolio, words.scripts, words.output, limits, words.jobs)
+    print(f"{parts} parts in {words.output}")
+    return 0
+
+
+def add_run_parts(commands: argparse._SubParsersAction) -> None:
+    parser = new_command(commands, "run-parts", "run the parts that aren't done: here, by GNU parallel, or by Slurm",
+                         run_parts)
+    parser.add_argument("parts", metavar="FOLDER", help="a folder of parts, which `split` has made")
+    parser.add_argument("--engine", choices=("local", "parallel", "slurm"), default="local", help="what runs them")
+    add_jobs(parser)
+    parser.add_argument("--retry", action="store_true", help="run those that failed again")
+    parser.add_argument("--careful", action="store_true", help="compare the hashes of all texts that are there")
+    parser.add_argument("--sshlogin", action="append", default=[], metavar="HOST", help="a host for GNU parallel, as it "
+                        "takes them (: is this one); may be given again")
+    parser.add_argument("--option", action="append", default=[], metavar="OPTION", help="an option for parallel or "
+                        "sbatch, as --option=--partition=night; may be given again")
+    add_program(parser)
+
+
+def run_parts(words: argparse.Namespace) -> int:
+    from .engines import run_parts as run_all
+    from .program import find_program
+    if words.sshlogin and words.engine != "parallel":
+        raise ToolError("--sshlogin is for --engine parallel", WORDS)
+    return run_all(words.parts, words.engine, find_program(words.program), words.jobs, words.retry, words.sshlogin,
+                   words.option, words.careful)
+
+
+def add_run_part(commands: argparse._SubParsersAction) -> None:
+    parser = new_command(commands, "run-part", "run some parts, one after the other, as engines do on their hosts",
+                         run_part)
+    parser.add_argument("parts", metavar="FOLDER", help="a folder of parts")
+    parser.add_argument("numbers", nargs="+", type=positive, metavar="N", help="the numbers of parts")
+    add_program(parser)
+
+
+def run_part(words: argparse.Namespace) -> int:
+    from .engines import run_part as run_one
+    from .parts import hash_of
+    from .program import find_program
+    program = find_program(words.program)
+    program_hash, failed = hash_of(program), False
+    for number in words.numbers:
+        failed |= run_one(words.parts, number, program, program_hash) not in (0, UNFINISHED)
+    return 1 if failed else 0
+
+
+def add_gather(commands: argparse._SubParsersAction) -> None:
+    parser = new_command(commands, "gather", "put all parts into one CSV file or SQLite database, or sum them by period "
+                         "and currency", gather)
+    parser.add_argument("parts", metavar="FOLDER", help="a folder of parts that are done")
+    parser.add_argument("-o", "--output", metavar="FILE", help="the file to write; else the standard output")
+    parser.add_argument("--form", choices=("csv", "sqlite"), help="the form; else by the end of the output's name, or "
+                        "csv")
+    parser.add_argument("--ladder", choices=("month", "year"), help="sums by month or year and currency, as CSV")
+    add_csv(parser)
+    add_jobs(parser)
+
+
+def gather(words: argparse.Namespace) -> int:
+    from .gather import gather_csv, gather_database, gather_ladder
+    form, csv = form_of(words.form, words.output), csv_form(words)
+    if form == "jsonl" or words.ladder and form != "csv":
+        raise ToolError("parts are gathered as CSV or SQLite, and sums as CSV", WORDS)
+    if words.ladder:
+        stopped = gather_ladder(words.parts, words.output, words.ladder, csv, words.jobs)
+    elif form == "sqlite":
+        stopped = gather_database(words.parts, words.output, words.jobs)
+    else:
+        stopped = gather_csv(words.parts, words.output, csv, words.jobs)
+    return told(stopped, words.parts)
+
+
+def add_audit_parts(commands: argparse._SubParsersAction) -> None:
+    parser = new_command(commands, "audit-parts", "judge the text of each part by actus_audit", audit_parts)
+    parser.add_argument("parts", metavar="FOLDER", help="a folder of parts that are done")
+    add_jobs(parser)
+    add_program(parser, "actus_audit")
+
+
+def audit_parts(words: argparse.Namespace) -> int:
+    from .engines import audit_parts as audit_all
+    from .program import find_program
+    return audit_all(words.parts, find_program(words.program, "actus_audit"), words.jobs)
 
 
 # ---- the whole
