@@ -35,6 +35,8 @@ def run_part(folder: str, number: int, program: str, program_hash: str) -> int:
         if hash_of(where / name) != part[key]:
             raise ToolError(f"{where / name} isn't what `split` wrote: split again", UNREADABLE)
     beside = where / f".{TEXT}.{os.uname().nodename}.{os.getpid()}.{number}"
+    for left in where.glob(f".{TEXT}.*"):       # of a run that was cut off
+        left.unlink(missing_ok=True)
     begun = time.monotonic()
     try:
         with open(beside, "wb") as out, open(where / ERRORS, "wb") as errors:
@@ -137,8 +139,9 @@ def _engine(name: str, package: str) -> str:
 
 def _parallel(folder: str, todo: list[int], program: str, program_hash: str, jobs: int, logins: Sequence[str],
               options: Sequence[str]) -> None:
-    """Runs parts by GNU parallel, on the hosts of `logins`; so many at once on each."""
-    words = [_engine("parallel", "parallel"), "--jobs", str(jobs), "--will-cite", *options]
+    """Runs parts by GNU parallel, on the hosts of `logins`; so many at once on each. What a host couldn't run, as where
+    it has gone, is tried on another one."""
+    words = [_engine("parallel", "parallel"), "--jobs", str(jobs), "--will-cite", "--retries", "4", *options]
     for login in logins:
         words += ["--sshlogin", login]
     words += [" ".join(map(shlex.quote, command_line(folder, program))) + " {}"]

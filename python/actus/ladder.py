@@ -8,7 +8,7 @@ from decimal import Decimal
 from typing import TextIO
 
 from .errors import TextError, ToolError
-from .table import CsvForm, words_of
+from .table import CsvForm
 from .text import RawBlock
 
 PERIODS = {"day": 10, "month": 7, "year": 4}
@@ -56,23 +56,31 @@ class Ladder:
 
     def add(self, block: RawBlock) -> None:
         """Adds what the rows of a block pay."""
-        steps, length = self.steps, self._length
-        caller, ask, version = block.caller, block.number, block.version
+        length = self._length
+        sums: dict[tuple[bytes, bytes], list[int]] = {}
         try:
-            for day, _, currency, payoff, *_ in words_of(block):
-                key = caller, ask, version, day[:length], currency
-                step = steps.get(key)
-                if step is None:
-                    step = steps[key] = Step()
-                number = units(payoff)
-                step.rows += 1
-                if number < 0:
-                    step.paid -= number
+            for line in block.lines:
+                day, _, currency, payoff, rest = line.split(b" ", 4)
+                if payoff[-10:-9] != b"." or rest.count(b" ") != 2:
+                    raise ValueError
+                number = int(payoff.replace(b".", b"", 1))
+                key = day[:length], currency
+                if key in sums:
+                    step = sums[key]
+                    step[number < 0] += number
+                    step[2] += 1
                 else:
-                    step.received += number
+                    sums[key] = [0, number, 1] if number < 0 else [number, 0, 1]
         except ValueError:
             raise TextError(block.first_line, "rows with amounts of nine decimals",
                             f"those of {block.contract}") from None
+        for (period, currency), (received, paid, rows) in sums.items():
+            key = (block.caller, block.number, block.version, period.decode("ascii", "replace"),
+                   currency.decode("ascii", "replace"))
+            step = self.steps.setdefault(key, Step())
+            step.received += received
+            step.paid -= paid
+            step.rows += rows
 
     def merge(self, steps: Iterable[tuple[tuple[int, int, int, str, str], Step]]) -> None:
         """Adds the sums of another ladder."""

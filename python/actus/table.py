@@ -65,14 +65,23 @@ class CsvForm:
         between = self.separator
         head = between.join([str(block.caller), str(block.number), str(block.version),
                              quoted(block.contract, between), ""])
-        lines = []
-        for day, kind, currency, payoff, notional, rate, accrued in words_of(block):
-            amounts = self.number(f"{payoff}{between}{notional}{between}{rate}{between}{accrued}")
-            lines.append(f"{head}{day}{between}{kind}{between}{quoted(currency, between)}{between}{amounts}\n")
+        text = b"".join(block.lines).decode("ascii", "replace")
+        count = len(block.lines)
+        plain = between not in text and '"' not in text and text.count(".") == 4 * count
+        if plain and all(line.count(b" ") == 6 for line in block.lines):
+            # no field wants quotes, and each point stands in a number: the signs are changed in all lines at once
+            text = self.number(text).replace(" ", between)
+            lines = (head + text.replace("\n", f"\n{head}"))[:-len(head)] if count else ""
+        else:
+            lines = "".join(f"{head}{self._row(words)}" for words in words_of(block))
         if stop := block.stop:
             told = quoted(f"{stop.kind} {stop.about}", between)
-            lines.append(f"{head}{stop.day.isoformat()}{between}{told}{between * 5}\n")
-        return "".join(lines)
+            lines += f"{head}{stop.day.isoformat()}{between}{told}{between * 5}\n"
+        return lines
+
+    def _row(self, words: list[str]) -> str:
+        names = [quoted(word, self.separator) for word in words[:3]]
+        return self.separator.join([*names, *map(self.number, words[3:])]) + "\n"
 
 
 def write_csv(reader: TextReader, out: TextIO, form: CsvForm) -> int:
