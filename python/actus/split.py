@@ -297,8 +297,60 @@ def weighed(source: str, index: Index, component: Component, steps: Steps) -> Co
     return component
 
 
+def too_large(index: Index, above: list[tuple[Component, str]]) -> ToolError:
+    """What to say of components that are above a limit."""
+    first, why = above[0]
+    names = ", ".join(index.names[place] for place in first.members[:5])
+    more = f" and {len(first.members) - 5} more" if len(first.members) > 5 else ""
+    others = f"; and so {len(above) - 1} more" if len(above) > 1 else ""
+    return ToolError(f"what stays together can't be split: {names}{more}: {why}{others}", PORTFOLIO)
+
+
+def fill_plain(index: Index, steps: Steps, limits: Limits) -> list[Part] | None:
+    """The parts of a portfolio in which no contract refers to another one, and of a script that only observes rates and
+    asks for all: stretches of the file. The same as by components, in less time; none where a contract alone may be
+    above a limit."""
+    filling, parts, part = Filling(limits, steps), [], Part()
+    sets = [frozenset(codes) for codes in index.codes]
+    stars, first, known = steps.stars, 0, set()
+    room = limits.weight // stars - 1 if stars else 1 << 62
+    count, size, weight = 0, 2, 0
+
+    def close(behind: int) -> None:
+        part.members = array("L", range(first, behind))
+        part.contracts = part.names = behind - first
+        part.size, part.weight = size, weight
+        parts.append(part)
+
+    for place, (start, end, more, codes) in enumerate(zip(index.starts, index.ends, index.weights, index.code_sets)):
+        needs = end - start + 2
+        fits = count < limits.contracts and size + needs <= limits.size and weight + more <= room
+        if fits and codes not in known:
+            fits = filling.rates_of(part.codes | sets[codes])[0] <= limits.entries
+        if not fits:
+            alone = Component([place], 1, 1, needs, more, codes=sets[codes])
+            if filling.excess(alone):
+                return None
+            if count:
+                close(place)
+            part, first, known, count, size, weight = Part(), place, set(), 0, 2, 0
+        if codes not in known:
+            known.add(codes)
+            part.codes |= sets[codes]
+        count += 1
+        size += needs
+        weight += more
+    if count:
+        close(len(index))
+    return parts
+
+
 def fill(source: str, index: Index, steps: Steps, limits: Limits, places: dict[str, int]) -> list[Part]:
     """The parts of a portfolio. Raises `ToolError` where something can't be split."""
+    if not index.units and not steps.events and not steps.asks:
+        plain = fill_plain(index, steps, limits)
+        if plain is not None:
+            return plain
     filling, parts, above = Filling(limits, steps), [], []
     for component in components(index, steps, places):
         if filling.excess(component) and (why := filling.excess(weighed(source, index, component, steps))):
@@ -308,11 +360,7 @@ def fill(source: str, index: Index, steps: Steps, limits: Limits, places: dict[s
     if filling.part.members:
         parts.append(filling.part)
     if above:
-        first, why = above[0]
-        names = ", ".join(index.names[place] for place in first.members[:5])
-        more = f" and {len(first.members) - 5} more" if len(first.members) > 5 else ""
-        others = f"; and so {len(above) - 1} more" if len(above) > 1 else ""
-        raise ToolError(f"what stays together can't be split: {names}{more}: {why}{others}", PORTFOLIO)
+        raise too_large(index, above)
     for part in parts:
         part.members = array("L", sorted(part.members))
     return parts

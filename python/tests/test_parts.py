@@ -191,6 +191,22 @@ class Splitting(Folder):
         self.assertEqual([one.codes[n] for n in one.code_sets], [other.codes[n] for n in other.code_sets])
         self.assertEqual(one.units.keys(), other.units.keys())
 
+    def test_plain_contracts_are_filled_as_others(self):
+        from actus.split import Filling, components, count_steps, fill_plain, places_of
+        draw = random.Random(1)
+        contracts = [loan(f"L{n}", maturityDate=f"20{draw.randint(21, 90)}-01-01", cycleOfRateReset="P1Y",
+                          marketObjectCodeOfRateReset=draw.choice("ABC")) for n in range(300)]
+        portfolio, text = written(self.folder, contracts, [
+            {"rate": {"code": code, "date": "2020-01-01", "value": 0.01}} for code in "ABBC"] + [{"ask": "*"}] * 2)
+        index, steps = index_of(str(portfolio), 1), count_steps([str(text)])
+        for limits in (Limits(), Limits(contracts=7), Limits(weight=3000), Limits(size=5000), Limits(entries=3)):
+            filling, parts = Filling(limits, steps), []
+            for component in components(index, steps, places_of(index)):
+                if full := filling.add(component):
+                    parts.append(full)
+            self.assertEqual([(list(part.members), part.weight, part.codes) for part in fill_plain(index, steps, limits)],
+                             [(list(part.members), part.weight, part.codes) for part in (*parts, filling.part)])
+
     def test_ranges(self):
         self.assertEqual(ranges_of([0, 1, 2, 5, 7, 8]), [[0, 3], [5, 1], [7, 2]])
 
