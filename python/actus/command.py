@@ -141,7 +141,7 @@ def table(words: argparse.Namespace) -> int:
         reader = read_text(file)
         if words.ladder:
             ladder = Ladder(words.ladder)
-            for block in reader.raw_blocks():
+            for block in reader.checked_blocks():
                 ladder.add(block)
                 stopped += block.stop is not None
             with writing(words.output) as out:

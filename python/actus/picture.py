@@ -8,8 +8,7 @@ from dataclasses import dataclass, field
 
 from .drawing import Drawing, Line, Rectangle, Words, text_width
 from .errors import ToolError
-from .ladder import ONE, units
-from .table import words_of
+from .ladder import ONE
 from .text import TextReader
 
 IN, OUT, BEFORE, GRID, INK = "#2a6f97", "#d1793b", "#444444", "#dddddd", "#222222"
@@ -67,9 +66,9 @@ def flows_of(reader: TextReader, choice: Choice) -> dict[int, Flows]:
             found = {number: found[number] for number in found if number == choice.before}
         flows = found.setdefault(block.number, Flows())
         flows.contracts.add(block.contract)
-        for day, kind, currency, payoff, *_ in words_of(block):
-            if not choice.types or kind in choice.types:
-                flows.add(currency, int(day[:4]) * 12 + int(day[5:7]) - 1, units(payoff))
+        for row in reader.rows_of(block):
+            if not choice.types or row.type in choice.types:
+                flows.add(row.currency, row.day.year * 12 + row.day.month - 1, int(row.payoff.scaleb(9)))
     return found
 
 

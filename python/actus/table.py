@@ -88,7 +88,7 @@ def write_csv(reader: TextReader, out: TextIO, form: CsvForm) -> int:
     """Writes all rows as CSV under a line of names; gives back how many blocks stopped."""
     out.write(form.line(COLUMNS))
     stopped = 0
-    for block in reader.raw_blocks():
+    for block in reader.checked_blocks():
         out.write(form.block(block))
         stopped += block.stop is not None
     return stopped
@@ -112,7 +112,7 @@ def json_lines(block: RawBlock) -> str:
 def write_json_lines(reader: TextReader, out: TextIO) -> int:
     """Writes all rows as JSON Lines; gives back how many blocks stopped."""
     stopped = 0
-    for block in reader.raw_blocks():
+    for block in reader.checked_blocks():
         out.write(json_lines(block))
         stopped += block.stop is not None
     return stopped
@@ -207,7 +207,7 @@ def write_database(reader: TextReader, name: Path_) -> int:
     with replacing(name) as path:
         try:
             database = Database(path)
-            for block in reader.raw_blocks():
+            for block in reader.checked_blocks():
                 database.add(block)
             for header in reader.headers:
                 database.add_ask(*header)

@@ -23,6 +23,7 @@ _AMOUNT = r"-?(?:0|[1-9][0-9]*)\.[0-9]{9}"
 _DAY = r"[0-9]{4}-(?:0[1-9]|1[0-2])-(?:0[1-9]|[12][0-9]|3[01])"
 _ROWS = re.compile(rf"^({_DAY}) ({'|'.join(EVENT_TYPES)}) ([!-~]{{1,16}}) ({_AMOUNT}) ({_AMOUNT}) ({_AMOUNT}) "
                    rf"({_AMOUNT})\n", re.MULTILINE)
+_WHOLE = re.compile(rf"(?:{_DAY} (?:{'|'.join(EVENT_TYPES)}) [!-~]{{1,16}} {_AMOUNT} {_AMOUNT} {_AMOUNT} {_AMOUNT}\n)*")
 _IS_DAY = re.compile(_DAY)
 _COUNT = re.compile(r"0|[1-9][0-9]*")
 _MOST_OFTEN = 10_000
@@ -323,6 +324,14 @@ class TextReader:
                     for day, kind, currency, payoff, notional, rate, accrued in found]
         except ValueError:
             raise self._wrong_row(raw) from None
+
+    def checked_blocks(self) -> Iterator[RawBlock]:
+        """The blocks with their rows as bytes, each of the form of a row (of days it is asked no further whether the
+        calendar has them)."""
+        for raw in self.raw_blocks():
+            if not _WHOLE.fullmatch(b"".join(raw.lines).decode("ascii", "replace")):
+                raise self._wrong_row(raw)
+            yield raw
 
     def _wrong_row(self, raw: RawBlock) -> TextError:
         for place, line in enumerate(raw.lines):

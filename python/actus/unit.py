@@ -118,7 +118,7 @@ def event_bound(kind: str | None, contract: dict[str, Any]) -> int:
     the most that there may be."""
     try:
         if kind in LOANS or kind == "SWPPV":
-            return min(MOST_EVENTS, _loan_bound(kind, contract.get))
+            return max(1, min(MOST_EVENTS, _loan_bound(kind, contract.get)))
         return 4 if kind in ("STK", "FXOUT", "OPTNS", "FUTUR", "SWAPS", "CAPFL", "CEG", "CEC") else MOST_EVENTS
     except (TypeError, ValueError, IndexError, ArithmeticError):
         return MOST_EVENTS
