@@ -80,7 +80,7 @@ def codes_of(kind: str | None, contract: dict[str, Any]) -> tuple[str, ...]:
         codes.append(f"{get('currency')}/{settled}")
     if other := get("currency2"):
         codes.append(f"{other}/{get('currency')}")
-    return tuple(code for code in codes if isinstance(code, str))
+    return tuple([code for code in codes if isinstance(code, str)]) if codes else ()
 
 
 # ---- how many scheduled events there are, at most
@@ -133,13 +133,12 @@ def _loan_bound(kind: str, get: Any) -> int:
         count = int(float(get("notionalPrincipal")) / float(get("nextPrincipalRedemptionPayment"))) + 2
         months, days = _dates(1, get("cycleOfPrincipalRedemption")) and _cycles[get("cycleOfPrincipalRedemption")]
         span = count * (months + days // 28 + 1) + 1
-    least = min((_month(day) for day in (get("cycleAnchorDateOfInterestPayment"),
-                                         get("cycleAnchorDateOfPrincipalRedemption"),
-                                         get("cycleAnchorDateOfRateReset"), get("cycleAnchorDateOfFee"),
-                                         get("cycleAnchorDateOfScalingIndex"),
-                                         get("cycleAnchorDateOfInterestCalculationBase")) if day), default=first)
-    if least < first:
-        span += first - least
+    anchors = [day for day in (get("cycleAnchorDateOfInterestPayment"), get("cycleAnchorDateOfPrincipalRedemption"),
+                               get("cycleAnchorDateOfRateReset"), get("cycleAnchorDateOfFee"),
+                               get("cycleAnchorDateOfScalingIndex"), get("cycleAnchorDateOfInterestCalculationBase"))
+               if day]
+    if anchors:
+        span += max(0, first - min(map(_month, anchors)))
     events = 5
     redeemed = 0
     if kind in ("LAM", "NAM", "ANN"):

@@ -13,12 +13,13 @@ sys.path.insert(0, str(TOP / "python"))
 
 
 def _built(name: str) -> str | None:
-    """The program by its environment variable, or `./NAME` at the top where it is built. (`./NAME` builds it where it
-    isn't, which takes long: that isn't done by a test.)"""
+    """The program by its environment variable, or as `./NAME` at the top has built it. (`./NAME` itself builds it where
+    it is out of date, which takes long: that isn't done by a test.)"""
     given = os.environ.get(name.upper())
     if given:
         return os.path.abspath(given)
-    return str(TOP / name) if (TOP / "crates" / name / "out" / name).exists() else None
+    built = TOP / "crates" / name / "out" / name
+    return str(built) if os.access(built, os.X_OK) else None
 
 
 PROGRAM = _built("actus")
