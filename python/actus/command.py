@@ -429,6 +429,25 @@ def audit_parts(words: argparse.Namespace) -> int:
 
 def main(words: Sequence[str] | None = None) -> int:
     """Runs the command of some words, those of the command line where none are given; gives back its status."""
+    if sys.stdout is None:
+        return said("the standard output is closed", UNWRITABLE)
+    try:
+        return ended(words)
+    finally:
+        leave_output()
+
+
+def leave_output() -> None:
+    """Writes out what is left; where nobody takes it, it is dropped, so that nothing is said of it at the end."""
+    try:
+        sys.stdout.flush()
+    except OSError:
+        with contextlib.suppress(OSError):
+            os.dup2(os.open(os.devnull, os.O_WRONLY), sys.stdout.fileno())
+
+
+def ended(words: Sequence[str] | None) -> int:
+    """The status that the command of some words ends with; what goes wrong is said in a line."""
     try:
         given = new_parser().parse_args(words)
         status = given.work(given)
@@ -437,7 +456,6 @@ def main(words: Sequence[str] | None = None) -> int:
     except ToolError as error:
         return said(error.message, error.status)
     except BrokenPipeError:
-        os.dup2(os.open(os.devnull, os.O_WRONLY), sys.stdout.fileno())
         return UNWRITABLE
     except OSError as error:
         where = f"{error.filename}: " if error.filename else ""
@@ -446,6 +464,10 @@ def main(words: Sequence[str] | None = None) -> int:
         return said("memory ran out", NO_MEMORY)
     except KeyboardInterrupt:
         return said("stopped by the keyboard", 130)
+    except UnicodeError as error:
+        return said(f"a file isn't UTF-8 throughout: {error}", UNREADABLE)
+    except (ValueError, OverflowError, RecursionError) as error:
+        return said(f"a number or a text is too large to be taken: {error}", UNREADABLE)
 
 
 def said(message: str, status: int) -> int:

@@ -5,6 +5,7 @@ from __future__ import annotations
 
 import contextlib
 import os
+import stat
 import sys
 from collections.abc import Iterator
 from pathlib import Path
@@ -19,6 +20,8 @@ Path_ = str | os.PathLike[str]
 def reading(name: Path_) -> Iterator[BinaryIO]:
     """The file, open for reading bytes; `-` is the standard input."""
     if str(name) == "-":
+        if sys.stdin is None:
+            raise ToolError("the standard input is closed: name a file", UNREADABLE)
         yield sys.stdin.buffer
         return
     try:
@@ -55,11 +58,26 @@ def _created(path: Path, encoding: str) -> Iterator[TextIO]:
         yield file
 
 
+def is_replaceable(name: Path_) -> bool:
+    """A regular file that is no symbolic link stands there, or nothing."""
+    try:
+        return stat.S_ISREG(os.lstat(name).st_mode)
+    except OSError:
+        return True
+
+
 @contextlib.contextmanager
 def replacing(name: Path_) -> Iterator[Path]:
     """A name beside the file's, which takes its place when the block is left without an error, and is removed with
-    one."""
+    one. What is no regular file, as a device, a pipe or a link, is never replaced: it is its own name, and is written
+    through."""
     goal = Path(name)
+    if not is_replaceable(goal):
+        try:
+            yield goal
+        except OSError as error:
+            raise ToolError(f"{name} can't be written: {reason(error)}", UNWRITABLE) from None
+        return
     beside = goal.with_name(f".{goal.name}.{os.getpid()}.part")
     try:
         yield beside

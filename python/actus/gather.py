@@ -20,7 +20,7 @@ from pathlib import Path
 from typing import Any, BinaryIO
 
 from .errors import UNWRITABLE, VERDICT, TextError, ToolError
-from .files import Path_, replacing, writing
+from .files import Path_, is_replaceable, replacing, writing
 from .ladder import Ladder, Step
 from .parts import TEXT, folder_of, hash_of, numbers_of, read_manifest, read_part, result_of, state_of
 from .table import COLUMNS, CsvForm, Database
@@ -59,6 +59,8 @@ class PartText:
         last, places = 0, iter(())
         try:
             for block in reader.raw_blocks():
+                if not 1 <= block.number <= len(self.asks):
+                    raise ToolError(f"{self.path} has an answer to ask {block.number}, which isn't asked", VERDICT)
                 if block.number != last:
                     last = block.number
                     places = self.places()
@@ -140,7 +142,7 @@ def _part_csv(folder: str, number: int, separator: str, comma: bool, beside: str
 def gather_csv(folder: str, goal: str | None, form: CsvForm, jobs: int) -> int:
     """Gathers all parts into one CSV file; gives back how many blocks stop."""
     numbers, stopped = gathered(folder), 0
-    if goal in (None, "-") or not are_in_order(folder, numbers):
+    if goal in (None, "-") or not is_replaceable(goal) or not are_in_order(folder, numbers):
         check(folder, numbers, jobs)
         with writing(goal) as out, ExitStack() as held:
             out.write(form.line(COLUMNS))

@@ -19,13 +19,14 @@ from .errors import TextError
 
 EVENT_TYPES = tuple("IED PR PP PY FP PRD TD IP IPCI RRF RR PRF IPCB SC DV MD CE XD STD".split())
 _TYPES = frozenset(EVENT_TYPES)
-_AMOUNT = r"-?(?:0|[1-9][0-9]*)\.[0-9]{9}"
+_AMOUNT = r"-?(?:0|[1-9][0-9]{0,59})\.[0-9]{9}"
 _DAY = r"[0-9]{4}-(?:0[1-9]|1[0-2])-(?:0[1-9]|[12][0-9]|3[01])"
 _ROWS = re.compile(rf"^({_DAY}) ({'|'.join(EVENT_TYPES)}) ([!-~]{{1,16}}) ({_AMOUNT}) ({_AMOUNT}) ({_AMOUNT}) "
                    rf"({_AMOUNT})\n", re.MULTILINE)
 _WHOLE = re.compile(rf"(?:{_DAY} (?:{'|'.join(EVENT_TYPES)}) [!-~]{{1,16}} {_AMOUNT} {_AMOUNT} {_AMOUNT} {_AMOUNT}\n)*")
 _IS_DAY = re.compile(_DAY)
-_COUNT = re.compile(r"0|[1-9][0-9]*")
+# up to 18 digits, which SQLite's whole numbers hold
+_COUNT = re.compile(r"0|[1-9][0-9]{0,17}")
 _MOST_OFTEN = 10_000
 
 
@@ -177,6 +178,7 @@ class TextReader:
         self._often = _Often()
         self.work: int | None = None
         self.headers: list[tuple[int, int, int]] = []
+        self._answered: set[tuple[int, int]] = set()
         self.journal = self._read_journal()
         self.ask_count = self._count_behind("answers ")
         asks = sum(1 for step in self.journal if isinstance(step, Ask))
@@ -273,6 +275,9 @@ class TextReader:
         if words[0] != "answer" or len(words) != 4 or not all(map(_COUNT.fullmatch, words[1:])):
             raise self._wrong('"answer", a caller, a number and a version', line)
         caller, number, version = map(int, words[1:])
+        if (caller, number) in self._answered:
+            raise self._wrong(f"one answer to ask {number} of caller {caller}", "a second one")
+        self._answered.add((caller, number))
         self.headers.append((caller, number, version))
         while self._peek().startswith(b"contract "):
             contract = self._next()[len("contract "):]
@@ -326,12 +331,18 @@ class TextReader:
             raise self._wrong_row(raw) from None
 
     def checked_blocks(self) -> Iterator[RawBlock]:
-        """The blocks with their rows as bytes, each of the form of a row (of days it is asked no further whether the
-        calendar has them)."""
+        """The blocks with their rows as bytes, each of the form of a row, of a day that the calendar has."""
         for raw in self.raw_blocks():
-            if not _WHOLE.fullmatch(b"".join(raw.lines).decode("ascii", "replace")):
+            text = b"".join(raw.lines).decode("ascii", "replace")
+            if not _WHOLE.fullmatch(text) or not all(map(self._has_day, {line[:10] for line in raw.lines})):
                 raise self._wrong_row(raw)
             yield raw
+
+    def _has_day(self, raw: bytes) -> bool:
+        try:
+            return bool(self._days[raw.decode("ascii", "replace")])
+        except ValueError:
+            return False
 
     def _wrong_row(self, raw: RawBlock) -> TextError:
         for place, line in enumerate(raw.lines):

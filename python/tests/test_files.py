@@ -1,0 +1,100 @@
+"""What is written over, and what isn't; and bad input, of which one line tells."""
+
+import os
+import subprocess
+import sys
+import tempfile
+import threading
+import unittest
+from pathlib import Path
+
+from helpers import EXAMPLES, TOP, command
+
+from actus.errors import TextError
+from actus.text import read_text
+
+TEXT = "journal 1\n1 ask *\nanswers 1\nanswer 1 1 {version}\ncontract A\n{day} IP EUR {amount}.000000000 1.000000000 " \
+       "0.000000000 0.000000000\nend\nwork 1\n"
+PLAIN = EXAMPLES / "p1.out"
+
+
+def text(version="0", day="2021-01-01", amount="1") -> bytes:
+    return TEXT.format(version=version, day=day, amount=amount).encode()
+
+
+class Written(unittest.TestCase):
+    def setUp(self):
+        held = tempfile.TemporaryDirectory()
+        self.addCleanup(held.cleanup)
+        self.folder = Path(held.name)
+
+    def test_a_link_stays_and_its_file_is_written(self):
+        (self.folder / "real.csv").write_text("old")
+        (self.folder / "link.csv").symlink_to("real.csv")
+        self.assertEqual(command("table", PLAIN, "-o", self.folder / "link.csv").returncode, 0)
+        self.assertTrue((self.folder / "link.csv").is_symlink())
+        self.assertTrue((self.folder / "real.csv").read_text().startswith("caller,"))
+
+    def test_a_pipe_stays_and_is_written(self):
+        pipe, found = self.folder / "pipe.csv", []
+        os.mkfifo(pipe)
+        reader = threading.Thread(target=lambda: found.append(pipe.read_text()), daemon=True)
+        reader.start()
+        self.assertEqual(command("table", PLAIN, "-o", pipe).returncode, 0)
+        reader.join(10)
+        self.assertTrue(pipe.is_fifo())
+        self.assertTrue(found[0].startswith("caller,"))
+
+
+class BadInput(unittest.TestCase):
+    def refused(self, *words, data=None):
+        done = command(*words, data=data)
+        self.assertNotEqual(done.returncode, 0)
+        self.assertEqual(len(done.stderr.splitlines()), 1, done.stderr)
+        self.assertNotIn("Traceback", done.stderr)
+
+    def test_long_numbers(self):
+        for data in (text(version="9" * 20), text(version="9" * 5000), text(amount="9" * 5000)):
+            for form in ("csv", "jsonl"):
+                self.refused("table", "--form", form, data=data)
+            self.refused("table", "--ladder", "year", data=data)
+            with tempfile.TemporaryDirectory() as folder:
+                self.refused("table", "-o", Path(folder) / "a.sqlite", data=data)
+
+    def test_days_that_no_calendar_has(self):
+        for day in ("2021-02-30", "0000-01-01"):
+            self.refused("table", data=text(day=day))
+            self.refused("picture", "-o", "/nowhere/a.svg", data=text(day=day))
+
+    def test_two_answers_to_one_ask(self):
+        answer = b"answer 1 1 0\ncontract A\nend\n"
+        twice = b"journal 2\n1 ask *\n1 ask *\nanswers 2\n" + answer + answer + b"work 0\n"
+        self.refused("table", data=twice)
+        self.refused("table", "--ladder", "month", data=twice)
+        with self.assertRaises(TextError):
+            read_text(twice).whole()
+
+    def test_files_that_are_none(self):
+        for words in (["table", TOP], ["lint", TOP], ["table", "/nowhere"], ["standard", "compare", TOP],
+                      ["table", "--program", "/nowhere", "--run", EXAMPLES / "p1.json"]):
+            with self.subTest(words):
+                self.refused(*words)
+
+    def test_not_utf_8(self):
+        self.refused("table", data=b"\xff\xfe\n")
+        with tempfile.TemporaryDirectory() as folder:
+            file = Path(folder) / "a.json"
+            file.write_bytes(b'[{"contractID": "\xff"}]')
+            for words in (["standard", "convert", file], ["split", file, "-o", Path(folder) / "parts"]):
+                done = command(*words)
+                self.assertNotIn("Traceback", done.stderr)
+
+    def test_nobody_reads(self):
+        environment = dict(os.environ, PYTHONPATH=str(TOP / "python"))
+        for words in (["table", PLAIN], ["--help"]):
+            reading, writing = os.pipe()
+            os.close(reading)
+            done = subprocess.run([sys.executable, "-m", "actus", *map(str, words)], stdout=writing,
+                                  stderr=subprocess.PIPE, env=environment)
+            os.close(writing)
+            self.assertEqual(done.stderr, b"", words)
