@@ -8,6 +8,7 @@ import os
 import sys
 import tempfile
 from collections.abc import Callable, Iterator, Sequence
+from concurrent.futures import BrokenExecutor
 from typing import BinaryIO
 
 from .errors import NO_MEMORY, UNFINISHED, UNREADABLE, UNWRITABLE, WORDS, ToolError, reason
@@ -464,6 +465,8 @@ def ended(words: Sequence[str] | None) -> int:
         return said("memory ran out", NO_MEMORY)
     except KeyboardInterrupt:
         return said("stopped by the keyboard", 130)
+    except BrokenExecutor:
+        return said("a process was ended from outside, as where memory runs out: take fewer by -j", NO_MEMORY)
     except UnicodeError as error:
         return said(f"a file isn't UTF-8 throughout: {error}", UNREADABLE)
     except (ValueError, OverflowError, RecursionError) as error:

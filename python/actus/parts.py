@@ -106,7 +106,7 @@ def state_of(folder: Path_, number: int, program: str | None, part: dict[str, An
              careful: bool = False) -> str:
     """`done`, `failed` or `open`: whether a part's text is there, made of the files that are there by the program of this
     hash (or by any, where none is given). The text's size is looked at, and its hash where it was written before this
-    machine was started, or with `careful`."""
+    machine was started, or with `careful`; the hashes of its files are with `careful` alone."""
     part = part or read_part(folder, number)
     result = result_of(folder, number)
     if result is None or any(result.get(name) != part[name] for name in ("portfolio", "script")):
@@ -120,6 +120,9 @@ def state_of(folder: Path_, number: int, program: str | None, part: dict[str, An
         if path.stat().st_size != result.get("bytes"):
             return "open"
     except OSError:
+        return "open"
+    if careful and any(hash_of(path.with_name(name)) != part[key]
+                       for name, key in ((PORTFOLIO_FILE, "portfolio"), (SCRIPT_FILE, "script"))):
         return "open"
     if (careful or result.get("boot") != this_boot()) and hash_of(path) != result.get("text"):
         return "open"
