@@ -23,7 +23,7 @@ from .errors import UNWRITABLE, VERDICT, TextError, ToolError
 from .files import Path_, is_replaceable, replacing, writing
 from .ladder import Ladder, Step
 from .parts import TEXT, folder_of, hash_of, numbers_of, read_manifest, read_part, result_of, state_of
-from .table import COLUMNS, CsvForm, Database
+from .table import COLUMNS, CsvForm, Database, database_place
 from .text import RawBlock, read_text
 
 
@@ -192,7 +192,7 @@ def gather_database(folder: str, goal: str, jobs: int) -> int:
     """Gathers all parts into one SQLite database; gives back how many blocks stop."""
     numbers = gathered(folder)
     check(folder, numbers, jobs)
-    with replacing(goal) as path, ExitStack() as held:
+    with replacing(database_place(goal)) as path, ExitStack() as held:
         try:
             database = Database(path)
             for block in _blocks(folder, numbers, held):

@@ -9,12 +9,13 @@ columns `.._number`, which are for looking.
 from __future__ import annotations
 
 import json
+import os
 import sqlite3
 from collections.abc import Iterable, Iterator
 from typing import TextIO
 
 from .errors import UNWRITABLE, TextError, ToolError
-from .files import Path_, replacing
+from .files import Path_, is_replaceable, replacing
 from .text import RawBlock, TextReader
 
 COLUMNS = ("caller", "ask", "version", "contract", "day", "type", "currency", "payoff", "notional", "rate", "accrued")
@@ -202,9 +203,18 @@ class Database:
         self._link.close()
 
 
+def database_place(name: Path_) -> str:
+    """Where a database is made: the file itself, or the one that a link leads to. Raises `ToolError` where something
+    stands there that is no regular file."""
+    place = os.path.realpath(name)
+    if not is_replaceable(place):
+        raise ToolError(f"{name} can't be written: a database needs a regular file", UNWRITABLE)
+    return place
+
+
 def write_database(reader: TextReader, name: Path_) -> int:
     """Writes a text as an SQLite database; gives back how many blocks stopped."""
-    with replacing(name) as path:
+    with replacing(database_place(name)) as path:
         try:
             database = Database(path)
             for block in reader.checked_blocks():

@@ -1,10 +1,12 @@
 """What is written over, and what isn't; and bad input, of which one line tells."""
 
 import os
+import signal
 import subprocess
 import sys
 import tempfile
 import threading
+import time
 import unittest
 from pathlib import Path
 
@@ -44,6 +46,20 @@ class Written(unittest.TestCase):
         reader.join(10)
         self.assertTrue(pipe.is_fifo())
         self.assertTrue(found[0].startswith("caller,"))
+
+
+    def test_a_device_stays(self):
+        self.assertEqual(command("table", PLAIN, "-o", "/dev/null").returncode, 0)
+        self.assertTrue(Path("/dev/null").is_char_device())
+
+    def test_a_database_behind_a_link_is_made_anew(self):
+        (self.folder / "link.sqlite").symlink_to("real.sqlite")
+        for _ in range(2):
+            self.assertEqual(command("table", PLAIN, "-o", self.folder / "link.sqlite").returncode, 0)
+        self.assertTrue((self.folder / "link.sqlite").is_symlink())
+        self.assertEqual((self.folder / "real.sqlite").read_bytes()[:6], b"SQLite")
+        done = command("table", PLAIN, "--form", "sqlite", "-o", "/dev/null")
+        self.assertEqual((done.returncode, len(done.stderr.splitlines())), (7, 1))
 
 
 class BadInput(unittest.TestCase):
@@ -88,6 +104,17 @@ class BadInput(unittest.TestCase):
             for words in (["standard", "convert", file], ["split", file, "-o", Path(folder) / "parts"]):
                 done = command(*words)
                 self.assertNotIn("Traceback", done.stderr)
+
+    def test_the_keyboard_stops_it(self):
+        environment = dict(os.environ, PYTHONPATH=str(TOP / "python"))
+        with subprocess.Popen([sys.executable, "-m", "actus", "table"], stdin=subprocess.PIPE, stdout=subprocess.PIPE,
+                              stderr=subprocess.PIPE, env=environment) as process:
+            process.stdin.write(b"journal 1\n")
+            process.stdin.flush()
+            time.sleep(1)
+            process.send_signal(signal.SIGINT)
+            _, said = process.communicate(timeout=10)
+        self.assertEqual((process.returncode, said), (130, b"actus: stopped by the keyboard\n"))
 
     def test_nobody_reads(self):
         environment = dict(os.environ, PYTHONPATH=str(TOP / "python"))
