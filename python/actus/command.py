@@ -339,7 +339,7 @@ def split(words: argparse.Namespace) -> int:
     limits = Limits(min(words.contracts, 4096), min(words.bytes, 64 << 20), min(words.entries, 1_048_576),
                     min(words.weight, 4_194_304))
     parts = split_files(words.portfolio, words.scripts, words.output, limits, words.jobs)
-    print(f"{parts} parts in {words.output}")
+    print(f"{parts} part{'s' * (parts != 1)} in {words.output}")
     return 0
 
 
