@@ -6,7 +6,6 @@ import subprocess
 import sys
 import tempfile
 import threading
-import time
 import unittest
 from pathlib import Path
 
@@ -22,6 +21,11 @@ PLAIN = EXAMPLES / "p1.out"
 
 def text(version="0", day="2021-01-01", amount="1") -> bytes:
     return TEXT.format(version=version, day=day, amount=amount).encode()
+
+
+def listen_to_the_keyboard() -> None:
+    """Lets Ctrl-C stop the process, also where the tests run in the background and don't hear of it."""
+    signal.signal(signal.SIGINT, signal.SIG_DFL)
 
 
 class Written(unittest.TestCase):
@@ -107,13 +111,14 @@ class BadInput(unittest.TestCase):
 
     def test_the_keyboard_stops_it(self):
         environment = dict(os.environ, PYTHONPATH=str(TOP / "python"))
-        with subprocess.Popen([sys.executable, "-m", "actus", "table"], stdin=subprocess.PIPE, stdout=subprocess.PIPE,
-                              stderr=subprocess.PIPE, env=environment) as process:
-            process.stdin.write(b"journal 1\n")
-            process.stdin.flush()
-            time.sleep(1)
-            process.send_signal(signal.SIGINT)
-            _, said = process.communicate(timeout=10)
+        with tempfile.TemporaryDirectory() as folder:
+            pipe = os.path.join(folder, "pipe")
+            os.mkfifo(pipe)
+            with subprocess.Popen([sys.executable, "-m", "actus", "table", pipe], stdout=subprocess.DEVNULL,
+                                  stderr=subprocess.PIPE, env=environment, preexec_fn=listen_to_the_keyboard) as process:
+                with open(pipe, "wb"):          # opened once the other end is: it waits for the first line then
+                    process.send_signal(signal.SIGINT)
+                    _, said = process.communicate(timeout=60)
         self.assertEqual((process.returncode, said), (130, b"actus: stopped by the keyboard\n"))
 
     def test_nobody_reads(self):

@@ -1,6 +1,7 @@
 """Parts: split, run and gathered they are one run. The rows that are wanted are the program's own of the whole, read by
 plain code here."""
 
+import contextlib
 import json
 import os
 import random
@@ -325,7 +326,8 @@ class RunningParts(Folder):
                                start_new_session=True)
         while run.poll() is None and len(list(Path(self.parts).glob("*/result.json"))) < 5:
             time.sleep(0.005)
-        os.killpg(run.pid, signal.SIGKILL)
+        with contextlib.suppress(ProcessLookupError):       # where it has ended before
+            os.killpg(run.pid, signal.SIGKILL)
         run.wait()
         self.assertEqual(command("run-parts", self.parts).returncode, 0)
         self.assertEqual(command("gather", self.parts).stdout, wanted)
